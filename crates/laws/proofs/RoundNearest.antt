@@ -1,0 +1,105 @@
+-- `round` is IEEE 754's rounding: to nearest, ties to even, overflow to infinity, in any format and for any fraction. Assumes nothing.
+use mathlib.Core.Path.{_≡_, refl, sym, ap, _∙_, subst}
+use mathlib.Core.Bool.{Bool, true, false, not, Bool·beq, cond}
+use mathlib.Core.Logic.{inl, inr}
+use Prim.Native.Nat.{ℕ, _+_, _*_, _/_, _%_, _^_, _≤_, _<_}
+use native.Mathlib.Nat.{mul-assoc}
+use native.Mathlib.Omega.{arith}
+use lib.Dec.{T}
+use lib.Ieee.{Float, nan, inf, fin, Format, binary32, binary64, prec, low, hid, top, round, fits, isNan, toBits}
+use lib.Ieee.Fits.{two, two-le-pos, round-fits}
+use lib.Ieee.Order.{drop, kept}
+use lib.Ieee.Scale.{grid, finite}
+use Rattle.laws.specs.Within.{distance}
+use Rattle.laws.specs.Exact.{negative, sizeIn}
+use Rattle.laws.specs.RoundsTo.{gap, off, RoundsTo}
+use Rattle.laws.proofs.KeptLaws.{kept-le, kept-few}
+use Rattle.laws.proofs.OverflowLaws.{round-finite, round-infinite, round-either}
+use Rattle.laws.proofs.RoundingError.{finite-round}
+use Rattle.laws.proofs.ValueLaws.{toBits-value, pattern-is}
+use Rattle.laws.proofs.SizeLaws.{size-of-value, size-unique}
+use Rattle.laws.proofs.GridLaws.{grid-best, grid-tie}
+
+-- ---- the last digit of the bits is that of the kept number
+parity : (t k h q : ℕ) → t % 2 ≡ 0 → h % 2 ≡ 0 → (t + k * h + q) % 2 ≡ q % 2
+parity t k h q e d =
+    let g : k * h ≡ k * (h / 2) * 2 = ap (λ (x : ℕ). k * x) (halves h d) ∙ sym (mul-assoc k (h / 2) 2) in
+    omega arith
+  where
+    halves : (h : ℕ) → h % 2 ≡ 0 → h ≡ h / 2 * 2
+    halves h d = omega arith
+
+hid-even : (f : Format) → hid f % 2 ≡ 0
+hid-even binary32 = refl
+hid-even binary64 = refl
+
+sign-even : (f : Format) (s : Bool) → cond s (top f) 0 % 2 ≡ 0
+sign-even binary32 true = refl
+sign-even binary32 false = refl
+sign-even binary64 true = refl
+sign-even binary64 false = refl
+
+-- ---- signs
+finite-number : (x : Float) → T (finite x) → T (not (isNan x))
+unfolding isNan
+finite-number nan t = t
+finite-number (inf s) t = tt
+finite-number (fin s m e) t = tt
+
+same-sign : (s t : Bool) → T (Bool·beq s t) → s ≡ t
+same-sign true true h = refl
+same-sign true false h = absurd h
+same-sign false true h = absurd h
+same-sign false false h = refl
+
+gap-same : (s : Bool) (x y : ℕ) → gap s x s y ≡ distance x y
+gap-same true x y = refl
+gap-same false x y = refl
+
+module _ (f : Format) (s : Bool) (a c : ℕ) (C : 0 < c) where
+  n : ℕ
+  n = a * 2 ^ low f
+
+  q : ℕ
+  q = kept (prec f) n c
+
+  r : Float
+  r = round f s a c
+
+  not-nan : T (not (isNan r))
+  unfolding r isNan
+  not-nan = elim (round-either f s a c C) [ inl t ↦ finite-number r t | inr e ↦ subst (λ (x : Float). T (not (isNan x))) (sym e) tt ]
+
+  sign-is : negative r ≡ s
+  unfolding r negative
+  sign-is = elim (round-either f s a c C) [ inl t ↦ size-of-value f r s (grid f a c) (finite-round f s a c t) .1 | inr e ↦ ap negative e ]
+
+  off-is : T (finite r) → off f r s a c ≡ distance (grid f a c * c) n
+  unfolding r n
+  off-is t =
+      let v = size-of-value f r s (grid f a c) (finite-round f s a c t) in
+      ap (λ (b : Bool). gap b (sizeIn f r * c) s n) (v .1) ∙ gap-same s (sizeIn f r * c) n ∙ ap (λ (N : ℕ). distance (N * c) n) (v .0)
+
+  same : T (finite r) → (y : Float) → T (fits f y) → T (finite y) → T (Bool·beq (negative y) s) → grid f a c ≡ sizeIn f y → r ≡ y
+  unfolding r
+  same t y h u b g =
+      size-unique f r y (round-fits f s a c) h t u (sign-is ∙ sym (same-sign (negative y) s b)) (size-of-value f r s (grid f a c) (finite-round f s a c t) .0 ∙ g)
+
+  last-digit : T (finite r) → toBits f r % 2 ≡ q % 2
+  unfolding r q n
+  last-digit t =
+      let k = drop (prec f) n c in
+      ap (λ (x : ℕ). x % 2) (toBits-value f r s (grid f a c) (finite-round f s a c t) ∙ pattern-is f s q k (kept-le (prec f) n c) (kept-few (prec f) n c (two-le-pos (prec f) (two f)) C))
+      ∙ parity (cond s (top f) 0) k (hid f) q (sign-even f s) (hid-even f)
+
+  pub round-nearest : RoundsTo f s a c (round f s a c)
+  unfolding r q n
+  round-nearest = record {
+    value = round-fits f s a c;
+    number = not-nan;
+    sign = sign-is;
+    below = round-finite f s a c C;
+    beyond = round-infinite f s a c C;
+    nearest = λ t y h u. subst (λ (x : ℕ). x ≤ off f y s a c) (sym (off-is t)) (grid-best f a c C y h u (Bool·beq (negative y) s));
+    even = λ t y h u e d. last-digit t ∙ grid-tie f a c C y h u (Bool·beq (negative y) s) (λ b g. d (same t y h u b g)) (sym (off-is t) ∙ e);
+  }

@@ -1,0 +1,17 @@
+use Rattle.scalar.proofs.SignLaws.{zero-by-zero, pattern-nan, pattern-plain}
+use mathlib.Core.Path.{sym, _∙_}
+use borrow.Author.Needs.{needs}
+use Rattle.scalar.proofs.bits.from_bits.Statement.{statement}
+use Rattle.scalar.proofs.bits.from_bits.Tie as tie
+
+returns : tie.Need-returns
+returns c = sym zero-by-zero ∙ sym (pattern-nan (c .before .args .b) (c .if1 .taken))
+
+float-from-bits-result : tie.Need-float-from-bits-result
+float-from-bits-result c = pattern-plain (c .before .args .b) (c .if1 .left)
+
+returns-2 : tie.Need-returns-2
+returns-2 c = search needs
+
+pub from-bits-spec : {M : Type 1} → statement M
+from-bits-spec = tie.close (tie.spec returns float-from-bits-result returns-2)

@@ -1,0 +1,17 @@
+use borrow.Author.Needs.{needs}
+use Rattle.scalar.proofs.FirstRoots.{roots, rule}
+use Rattle.scalar.proofs.first_roots.first_root.Statement.{statement}
+use Rattle.scalar.proofs.first_roots.first_root.Tie as tie
+
+sub-result : tie.Need-sub-result
+sub-result c = search needs
+
+array-read-result : tie.Need-array-read-result
+array-read-result c = search needs
+
+returns : tie.Need-returns
+unfolding roots
+returns c = rule (c .args .k) (c .pre .0) (c .pre .1)
+
+pub first-root-spec : {M : Type 1} → statement M
+first-root-spec = tie.close (tie.spec sub-result array-read-result returns)

@@ -1,0 +1,13 @@
+pub mod Sign
+pub mod Root
+pub mod RootNearest
+pub mod RootParts
+pub mod Fused
+pub mod FusedMeaning
+pub mod Integral
+pub mod IntegralMeaning
+pub mod Euclid
+pub mod RemainderMeaning
+pub mod Acos
+pub mod Parts
+pub mod Corners

@@ -1,0 +1,8 @@
+// Layer 1, scalars: what the Rust takes from f32 itself, and the helpers of its src/f32/math.rs.
+pub mod acos;
+pub mod bits;
+pub mod euclid;
+mod first_roots;
+pub mod integral;
+pub mod root;
+pub mod sign;
