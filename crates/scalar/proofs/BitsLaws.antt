@@ -1,12 +1,13 @@
 -- The fields of a float's bit pattern, and the significand and digits that they give. Assumes nothing.
-use mathlib.Core.Path.{_≡_, refl, sym, ap, _∙_, subst}
+use mathlib.Core.Path.{_≡_, refl, sym, ap, ap₂, _∙_, subst}
 use mathlib.Core.Bool.{Bool, true, false, not, cond}
 use Prim.Native.Nat.{ℕ, zero, suc, _+_, _-_, _*_, _/_, _%_, _^_, _≤_, _<_}
 use native.Mathlib.Nat.{add-comm}
 use native.Mathlib.Omega.{arith}
 use lib.Dec.{T, leb, ltb, eqb, eqb→eq, eqb-refl}
 use lib.Ieee.{Float, nan, inf, fin, binary32, Format, prec, low, emax, odd, units, round, neg, fits, isNan, ne, eq, toBits, ofBits, ofFields}
-use lib.Ieee.Bits.{ofBits-toBits}
+use lib.Arith.{lt→nleb}
+use lib.Ieee.Bits.{ofBits-toBits, is-false}
 use lib.Ieee.Scale.{finite}
 use lib.Ieee.Fits.{core, round-is}
 use Rattle.scalar.specs.Parts.{Split}
@@ -114,3 +115,27 @@ parts-of x h f = go (eqb e 0) (eqb e 255) (eqb→eq e 0) (differ e 0) (eqb→eq 
     go true i p p' q q' = record { s = s; q = b % 8388608; k = 0; is = at-0 x s e (b % 8388608) (fields x h) (p tt); split = split-0 b }
     go false true p p' q q' = absurd (subst (λ (y : Float). T (finite y)) (at-255 x s e (b % 8388608) (fields x h) (q tt) (number x f)) f)
     go false false p p' q q' = record { s = s; q = b % 8388608 + 8388608; k = e - 1; is = at-mid x s e (b % 8388608) (fields x h) (p' tt) (q' tt); split = split-mid b (q' tt) }
+
+-- ---- a positive value of 24 digits, by its bits
+pub record Normal (x : Float) (b : ℕ) : Type 0 where
+  pub is : x ≡ odd 24 false (b % 8388608 + 8388608) (b / 8388608 - 1) 149
+  pub digits : b % 8388608 + 8388608 < 2 ^ 24
+  pub range : b / 8388608 - 1 < 254
+
+pub normal : (x : Float) → T (fits binary32 x) → 8388608 ≤ toBits binary32 x → toBits binary32 x < 2139095040 → Normal x (toBits binary32 x)
+normal x h l u = record { is = whole (toBits binary32 x) l u (fields x h); digits = omega arith; range = omega arith }
+  where
+    positive : (b : ℕ) → b < 2139095040 → leb 2147483648 b ≡ false
+    positive b u = is-false (leb 2147483648 b) (lt→nleb 2147483648 b (omega arith))
+
+    same : (b : ℕ) → b < 2139095040 → b % 2147483648 / 8388608 ≡ b / 8388608
+    same b u = omega arith
+
+    some : (b : ℕ) → 8388608 ≤ b → b / 8388608 ≡ 0 → ⊥
+    some b l e = omega arith
+
+    finite-field : (b : ℕ) → b < 2139095040 → b / 8388608 ≡ 255 → ⊥
+    finite-field b u e = omega arith
+
+    whole : (b : ℕ) → 8388608 ≤ b → b < 2139095040 → x ≡ ofFields binary32 (leb 2147483648 b) (b % 2147483648 / 8388608) (b % 8388608) → x ≡ odd 24 false (b % 8388608 + 8388608) (b / 8388608 - 1) 149
+    whole b l u e = at-mid x false (b / 8388608) (b % 8388608) (e ∙ ap₂ (λ (s : Bool) (i : ℕ). ofFields binary32 s i (b % 8388608)) (positive b u) (same b u)) (some b l) (finite-field b u)

@@ -1,7 +1,8 @@
 -- The rule of the table of first roots, at all of its entries by one computed test. Assumes nothing.
 use mathlib.Core.Bool.{Bool, _&&_}
-use mathlib.Core.List.{List, [], _∷_}
-use Prim.Native.Nat.{ℕ, zero, suc, _+_, _-_, _*_, _≤_, _<_}
+use mathlib.Core.List.{List, [], _∷_, _++_}
+use mathlib.Core.Path.{_≡_, subst}
+use Prim.Native.Nat.{ℕ, zero, suc, _+_, _-_, _*_, _/_, _%_, _≤_, _<_}
 use native.Mathlib.Omega.{arith}
 use lib.Dec.{T, leb, ltb, leb→le, ltb→lt}
 use lib.ListN.{getD}
@@ -9,30 +10,38 @@ use lib.Ieee.Fits.{and-l, and-r}
 use Rattle.laws.proofs.TableLaws.{at}
 use Rattle.scalar.specs.Root.{WholeRoot, grown}
 
--- r is the whole root of 64 * k, k being 256 + i
+-- the place of k in the table, and the k of a place
+abbrev pub place : ℕ → ℕ
+place k = k % 4 * 192 + k / 4 - 64
+
+abbrev key : ℕ → ℕ
+key i = i % 192 * 4 + i / 192 + 256
+
+-- r is the whole root of 64 times the place's k
 abbrev right : ℕ → ℕ → Bool
-right i r = leb (r * r) (64 * (i + 256)) && ltb (64 * (i + 256)) ((r + 1) * (r + 1))
+right i r = leb (r * r) (64 * key i) && ltb (64 * key i) ((r + 1) * (r + 1))
 
-right-is : (k r : ℕ) → 256 ≤ k → T (right (k - 256) r) → WholeRoot (64 * k) r
-right-is k r h t =
-    let a = leb (r * r) (64 * (k - 256 + 256)) in
-    let b = ltb (64 * (k - 256 + 256)) ((r + 1) * (r + 1)) in
-    let x = leb→le (r * r) (64 * (k - 256 + 256)) (and-l a b t) in
-    let y = ltb→lt (64 * (k - 256 + 256)) ((r + 1) * (r + 1)) (and-r a b t) in
-    record { below = omega arith; above = omega arith }
+right-is : (i r : ℕ) → T (right i r) → WholeRoot (64 * key i) r
+right-is i r t =
+    let a = leb (r * r) (64 * key i) in
+    let b = ltb (64 * key i) ((r + 1) * (r + 1)) in
+    record { below = leb→le (r * r) (64 * key i) (and-l a b t); above = ltb→lt (64 * key i) ((r + 1) * (r + 1)) (and-r a b t) }
 
--- the roots for n numbers from k on, r being the one before
-list : ℕ → ℕ → ℕ → List ℕ
-list zero r k = []
-list (suc n) r k = let s = grown r (64 * k) in s ∷ list n s (k + 1)
+-- the roots for n numbers, each fourth from k on, r being the one before
+column : ℕ → ℕ → ℕ → List ℕ
+column zero r k = []
+column (suc n) r k = let s = grown r (64 * k) in s ∷ column n s (k + 4)
 
 unfoldable pub roots : List ℕ
-unfolding list
-roots = list 768 127 256
+unfolding column
+roots = column 192 127 256 ++ (column 192 127 257 ++ (column 192 127 258 ++ column 192 127 259))
 
-pub rule : (k : ℕ) → 256 ≤ k → k < 1024 → WholeRoot (64 * k) (getD roots (k - 256) 0)
+pub rule : (k : ℕ) → 256 ≤ k → k < 1024 → WholeRoot (64 * k) (getD roots (place k) 0)
 unfolding roots
-rule k h l = right-is k (getD roots (k - 256) 0) h (at right roots tt (k - 256) (inside k h l))
+rule k h l = subst (λ (n : ℕ). WholeRoot (64 * n) (getD roots (place k) 0)) (back k h l) (right-is (place k) (getD roots (place k) 0) (at right roots tt (place k) (inside k h l)))
   where
-    inside : (k : ℕ) → 256 ≤ k → k < 1024 → k - 256 < 768
+    inside : (k : ℕ) → 256 ≤ k → k < 1024 → place k < 768
     inside k h l = omega arith
+
+    back : (k : ℕ) → 256 ≤ k → k < 1024 → key (place k) ≡ k
+    back k h l = omega arith

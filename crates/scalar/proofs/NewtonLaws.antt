@@ -3,7 +3,7 @@
 use mathlib.Core.Path.{_≡_, refl, sym, subst}
 use mathlib.Core.List.{[], _∷_}
 use Prim.Native.Nat.{ℕ, _+_, _-_, _*_, _/_, _^_, _≤_, _<_}
-use native.Mathlib.Nat.{le-trans, le-of-lt, le-antisymm, lt-of-le-of-lt, lt-of-lt-of-le, lt-of-not-le, not-le-of-lt, mul-le-mul, div-mul-le-self, lt-mul-div-succ}
+use native.Mathlib.Nat.{le-trans, le-of-eq, le-of-lt, le-antisymm, lt-of-le-of-lt, lt-of-lt-of-le, lt-of-not-le, not-le-of-lt, mul-le-mul, div-mul-le-self, div-div-eq-div-mul, lt-mul-div-succ}
 use native.Mathlib.Omega.{arith}
 use lib.Dec.{lit<}
 use Rattle.laws.proofs.Ring.{var, lit, _⊕_, _⊗_}
@@ -50,7 +50,7 @@ pub above-least : (n c x : ℕ) → 2 ^ 46 ≤ n → AboveRoot n c x → 2 ^ 23 
 above-least n c x h a = le-trans (root-ge n (a .root) 8388608 (a .is) h) (a .least)
 
 -- ---- a step leads from at most c above the root to at most d + 1
-pub step : (n c d x : ℕ) → 0 < x → c * c < 2 * x * (d + 1) → AboveRoot n c x → AboveRoot n (d + 1) ((x + n / x) / 2)
+step : (n c d x : ℕ) → 0 < x → c * c < 2 * x * (d + 1) → AboveRoot n c x → AboveRoot n (d + 1) ((x + n / x) / 2)
 step n c d x h k a = record {
   root = r;
   is = a .is;
@@ -68,11 +68,8 @@ step n c d x h k a = record {
     near : x - r ≤ c
     near = omega (arith, a .most)
 
-pub first-step : (n x y : ℕ) → AboveRoot n 81920 x → 8470528 ≤ x → y ≡ (x + n / x) / 2 → AboveRoot n 397 y
-first-step n x y a h e = subst (AboveRoot n 397) (sym e) (step n 81920 396 x (omega arith) (omega arith) a)
-
-pub second-step : (n x y : ℕ) → 2 ^ 46 ≤ n → AboveRoot n 397 x → y ≡ (x + n / x) / 2 → AboveRoot n 1 y
-second-step n x y h a e = let l = above-least n 397 x h a in subst (AboveRoot n 1) (sym e) (step n 397 0 x (omega arith) (omega arith) a)
+pub second-step : (n x y : ℕ) → 2 ^ 46 ≤ n → AboveRoot n 399 x → y ≡ (x + n / x) / 2 → AboveRoot n 1 y
+second-step n x y h a e = let l = above-least n 399 x h a in subst (AboveRoot n 1) (sym e) (step n 399 0 x (omega arith) (omega arith) a)
 
 -- ---- the first number, from the table's root r of 64 * k, k being the first ten digits of n
 table-square : (r : ℕ) → 65536 * r * (65536 * r) ≡ 4294967296 * (r * r)
@@ -81,7 +78,7 @@ table-square r = ring (r ∷ []) (lit 65536 ⊗ var 0 ⊗ (lit 65536 ⊗ var 0))
 start-square : (r : ℕ) → (65536 * r + 81920) * (65536 * r + 81920) ≡ 4294967296 * (r * r) + 10737418240 * r + 6710886400
 start-square r = ring (r ∷ []) ((lit 65536 ⊗ var 0 ⊕ lit 81920) ⊗ (lit 65536 ⊗ var 0 ⊕ lit 81920)) (lit 4294967296 ⊗ (var 0 ⊗ var 0) ⊕ lit 10737418240 ⊗ var 0 ⊕ lit 6710886400) refl
 
-pub start : (n r : ℕ) → 2 ^ 46 ≤ n → n < 2 ^ 48 → WholeRoot (64 * (n / 2 ^ 38)) r → AboveRoot n 81920 (65536 * r + 81920) × (8470528 ≤ 65536 * r + 81920)
+start : (n r : ℕ) → 2 ^ 46 ≤ n → n < 2 ^ 48 → WholeRoot (64 * (n / 2 ^ 38)) r → AboveRoot n 81920 (65536 * r + 81920) × (8470528 ≤ 65536 * r + 81920)
 start n r h l w = (
   record {
     root = wholeRoot 24 n;
@@ -103,6 +100,56 @@ start n r h l w = (
 
     under : (n r : ℕ) → r * r ≤ 64 * (n / 2 ^ 38) → 65536 * r * (65536 * r) ≤ n
     under n r w = omega (arith, table-square r)
+
+-- ---- the first step, from 16384 d, with a quotient that may be 4 short
+pub first-step : (n r : ℕ) → 2 ^ 46 ≤ n → n < 2 ^ 48 → WholeRoot (64 * (n / 2 ^ 38)) r → AboveRoot n 399 (8192 * (4 * r + 5) + 2 * (n / 65536 / (4 * r + 5)) + 2)
+first-step n r h l w =
+    let s = start n r h l w in
+    go (s .0 .root) (s .0 .is) (s .0 .least) (s .0 .most) (s .1)
+  where
+    d : ℕ
+    d = 4 * r + 5
+
+    q : ℕ
+    q = n / 65536 / d
+
+    D : 0 < 65536 * d
+    D = omega arith
+
+    nested : q ≡ n / (65536 * d)
+    nested = div-div-eq-div-mul n 65536 d
+
+    below : q * (65536 * d) ≤ n
+    below = subst (λ (z : ℕ). z * (65536 * d) ≤ n) (sym nested) (div-mul-le-self n (65536 * d))
+
+    above : n < 65536 * d * (q + 1)
+    above = subst (λ (z : ℕ). n < 65536 * d * (z + 1)) (sym nested) (lt-mul-div-succ n D)
+
+    square : n < (8192 * d + 2 * q + 2) * (8192 * d + 2 * q + 2)
+    square = lt-of-lt-of-le (lt-of-lt-of-le above (le-of-eq (ring (d ∷ q ∷ []) (lit 65536 ⊗ var 0 ⊗ (var 1 ⊕ lit 1)) (lit 16384 ⊗ var 0 ⊗ (lit 4 ⊗ (var 1 ⊕ lit 1))) refl))) (mean-square (16384 * d) (4 * (q + 1)) (8192 * d + 2 * q + 2) (omega arith))
+
+    go : (R : ℕ) → WholeRoot n R → R ≤ 65536 * r + 81920 → 65536 * r + 81920 ≤ R + 81920 → 8470528 ≤ 65536 * r + 81920 → AboveRoot n 399 (8192 * d + 2 * q + 2)
+    go R is lo hi big = record {
+      root = R;
+      is = is;
+      least = le-of-lt (root-lt n R (8192 * d + 2 * q + 2) is square);
+      most = two-more (8192 * d + 2 * q) R (over-step n R (16384 * d - R) 396 (4 * q) (8192 * d + 2 * q) (is .above) quotient (small R lo hi big) (half R lo));
+    }
+      where
+        two-more : (y R : ℕ) → y ≤ R + (396 + 1) → y + 2 ≤ R + 399
+        two-more y R h = omega arith
+
+        half : (R : ℕ) → R ≤ 65536 * r + 81920 → 2 * (8192 * d + 2 * q) ≤ R + (16384 * d - R) + 4 * q
+        half R lo = omega arith
+
+        back : R + (16384 * d - R) ≡ 16384 * d
+        back = omega arith
+
+        quotient : 4 * q * (R + (16384 * d - R)) ≤ n
+        quotient = subst (λ (z : ℕ). 4 * q * z ≤ n) (sym back) (le-trans (le-of-eq (ring (d ∷ q ∷ []) (lit 4 ⊗ var 1 ⊗ (lit 16384 ⊗ var 0)) (var 1 ⊗ (lit 65536 ⊗ var 0)) refl)) below)
+
+        small : (R : ℕ) → R ≤ 65536 * r + 81920 → 65536 * r + 81920 ≤ R + 81920 → 8470528 ≤ 65536 * r + 81920 → (16384 * d - R) * (16384 * d - R) < 2 * (R + (16384 * d - R)) * (396 + 1)
+        small R lo hi big = let e : 16384 * d - R ≤ 81920 = omega arith in let t = mul-le-mul e e in omega arith
 
 -- ---- the last comparison
 pub last-below : (n x : ℕ) → n < x * x → AboveRoot n 1 x → WholeRoot n (x - 1)

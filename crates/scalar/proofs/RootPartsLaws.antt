@@ -1,8 +1,8 @@
 -- The steps of a root: the shift of the significand, the whole number nearest to the root, and the two packed into the rounded root.
 -- Assumes nothing.
-use mathlib.Core.Path.{_≡_, sym, ap, _∙_, subst}
+use mathlib.Core.Path.{_≡_, refl, sym, ap, _∙_, subst}
 use mathlib.Core.Bool.{Bool, true, false, not}
-use Prim.Native.Nat.{ℕ, suc, _+_, _-_, _*_, _/_, _%_, _^_, _≤_, _<_}
+use Prim.Native.Nat.{ℕ, zero, suc, _+_, _-_, _*_, _/_, _%_, _^_, _≤_, _<_}
 use native.Mathlib.Nat.{le-trans, le-of-eq, lt-of-lt-of-le, lt-of-not-le, not-le-of-lt, mul-assoc, mul-le-mul-right, mul-lt-mul-of-pos-right, mod-eq-of-lt}
 use native.Mathlib.Omega.{arith}
 use lib.Dec.{T, ltb, ltb→lt, nltb→le, lit≤}
@@ -50,6 +50,18 @@ shift-by q k z t = go (t .0) (15 + z + (k + 149 - (15 + z)) % 2) (t .2) (t .3) (
 
 pub shift-is : (q k : ℕ) → 0 < q → q < 2 ^ 24 → Shift q k (15 + leadingZeros 32 q + (k + 149 - (15 + leadingZeros 32 q)) % 2)
 shift-is q k h l = shift-by q k (leadingZeros 32 q) (zeros q h l)
+
+-- 24 digits move up by 23 or 24
+pub shift-normal : (q k : ℕ) → 2 ^ 23 ≤ q → q < 2 ^ 24 → Shift q k (23 + k % 2)
+shift-normal q k h l = go (k % 2) (bit k) refl
+  where
+    bit : (k : ℕ) → k % 2 ≤ 1
+    bit k = omega arith
+
+    go : (b : ℕ) → b ≤ 1 → k % 2 ≡ b → Shift q k (23 + b)
+    go zero i e = record { low = omega arith; high = omega arith; least = omega arith; most = omega arith; even = omega arith }
+    go (suc zero) i e = record { low = omega arith; high = omega arith; least = omega arith; most = omega arith; even = omega arith }
+    go (suc (suc b)) i e = absurd (omega arith)
 
 -- ---- from the whole root to the nearest
 pub root-small : (n r : ℕ) → n < 2 ^ 48 → WholeRoot n r → r < 2 ^ 24

@@ -10,8 +10,25 @@ use crate::bits::decode;
 use crate::bits::pack;
 use crate::first_roots::first_root;
 
-// The rounded root.
+// The rounded root. Most arguments are positive and of 24 digits; they are told by one comparison of bits.
 pub fn sqrt(x: f32) -> f32
+    ensures { λ r. ⌜ r ≡ Root.root x ⌝ }
+{
+    if x != x {
+        return x;
+    }
+    let b = f32::to_bits(x);
+    if b >= 0x80_0000 {
+        if b < 0x7f80_0000 {
+            let k = b / 0x80_0000 - 1;
+            return root_of(b % 0x80_0000 + 0x80_0000, k, 23 + k % 2);
+        }
+    }
+    other_root(x)
+}
+
+// The rounded root of any float: of zeros, infinities, what is below zero, and subnormals.
+fn other_root(x: f32) -> f32
     ensures { λ r. ⌜ r ≡ Root.root x ⌝ }
 {
     match decode(x) {
@@ -29,17 +46,16 @@ pub fn sqrt(x: f32) -> f32
             if s {
                 return 0.0 / 0.0;
             }
-            root_of(q, k)
+            root_of(q, k, shift_of(q, k))
         }
     }
 }
 
-// The rounded root of q times 2 ^ k of the smallest values.
-fn root_of(q: u32, k: u32) -> f32
-    requires { ⌜ Positive q k ⌝ }
+// The rounded root of q times 2 ^ k of the smallest values, q being moved up by a digits.
+fn root_of(q: u32, k: u32, a: u32) -> f32
+    requires { ⌜ Positive q k × Shift q k a ⌝ }
     ensures { λ r. ⌜ r ≡ Root.rootUnits (q * 2 ^ k) ⌝ }
 {
-    let a = shift_of(q, k);
     let n = (q as u64) << a;
     let r = nearest_root(n);
     pack(false, r, (k + 149 - a) / 2)
@@ -71,8 +87,7 @@ fn whole_root(n: u64) -> u64
     requires { ⌜ (2 ^ 46 ≤ n) × (n < 2 ^ 48) ⌝ }
     ensures { λ r. ⌜ WholeRoot n r ⌝ }
 {
-    let start = above_root(n); // R < start ≤ R + 81920
-    let near = newton(n, start); // R ≤ near ≤ R + 397
+    let near = near_root(n); // R ≤ near ≤ R + 399
     let next = newton(n, near); // R ≤ next ≤ R + 1
     if next * next > n { next - 1 } else { next }
 }
@@ -85,10 +100,13 @@ fn newton(n: u64, x: u64) -> u64
     (x + n / x) / 2
 }
 
-// A number above the root of n, by at most 81920: from the table.
-fn above_root(n: u64) -> u64
+// The table's root r gives a start of 65536 r + 81920, above the root of n by at most 81920, and one step of Newton's from there is at most 399
+// above it. The start is 16384 d, so that the step's quotient is worked out in 32 digits, up to 4, which the last 2 makes good.
+fn near_root(n: u64) -> u64
     requires { ⌜ (2 ^ 46 ≤ n) × (n < 2 ^ 48) ⌝ }
-    ensures { λ r. ⌜ AboveRoot n 81920 r × (8470528 ≤ r) ⌝ }
+    ensures { λ r. ⌜ AboveRoot n 399 r ⌝ }
 {
-    65536 * (first_root((n >> 38) as usize) as u64) + 81920
+    let d = 4 * (first_root((n >> 38) as usize) as u32) + 5;
+    let q = (n >> 16) as u32 / d;
+    8192 * (d as u64) + 2 * (q as u64) + 2
 }

@@ -4,12 +4,6 @@ use Rattle.scalar.proofs.RootPartsLaws.{root-all}
 use Rattle.scalar.proofs.root.root_of.Statement.{statement}
 use Rattle.scalar.proofs.root.root_of.Tie as tie
 
-shift-of-requires : tie.Need-shift-of-requires
-shift-of-requires c κs = search needs
-
-cast-n : tie.Need-cast-n
-cast-n c = search needs
-
 shl-n : tie.Need-shl-n
 shl-n c = search needs
 
@@ -27,19 +21,9 @@ pack-requires c κs = search needs
 
 returns : tie.Need-returns
 returns c =
-    let a = c .before .before in
-    let s = a .before in
-    c .pack .ensures ∙ sym (root-all (s .args .q) (s .args .k) (a .shift-of .result) (c .before .nearest-root .result) (s .pre) (a .shift-of .ensures) (c .before .nearest-root .ensures))
+    let s = c .before .before in
+    c .pack .ensures ∙ sym (root-all (s .args .q) (s .args .k) (s .args .a) (c .before .nearest-root .result) (s .pre .0) (s .pre .1) (c .before .nearest-root .ensures))
 
 pub root-of-spec : {M : Type 1} → statement M
 root-of-spec =
-    tie.close
-    (tie.spec
-    shift-of-requires
-    cast-n
-    shl-n
-    nearest-root-requires
-    add-pack
-    sub-pack
-    pack-requires
-    returns)
+    tie.close (tie.spec shl-n nearest-root-requires add-pack sub-pack pack-requires returns)

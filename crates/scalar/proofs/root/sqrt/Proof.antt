@@ -1,81 +1,65 @@
-use mathlib.Core.Path.{_≡_, sym, _∙_, subst}
-use Prim.Native.Nat.{_<_}
+use mathlib.Core.Path.{_≡_, refl, sym, _∙_, subst}
+use mathlib.Core.Bool.{false}
+use Prim.Native.Nat.{_+_, _-_, _/_, _%_}
 use native.Mathlib.Omega.{arith}
-use lib.Ieee.{inf}
+use lib.Dec.{T}
+use lib.Ieee.{binary32, fits, toBits}
+use lib.Ieee.Compare.{differs-from-itself}
 use borrow.Author.Needs.{needs}
-use Rattle.scalar.specs.Parts.{Decoded}
-use Rattle.scalar.specs.declared.bits.Parts.{Parts}
-use Rattle.scalar.proofs.SignLaws.{zero-by-zero}
-use Rattle.scalar.proofs.RootCases.{root-nan, root-inf, root-neg-inf, root-zero, root-negative, root-positive}
+use Rattle.scalar.proofs.BitsLaws.{equal-no-nan, Normal, normal}
+use Rattle.scalar.proofs.RootCases.{root-nan, root-positive}
+use Rattle.scalar.proofs.RootPartsLaws.{shift-normal}
 use Rattle.scalar.proofs.root.sqrt.Statement.{statement}
 use Rattle.scalar.proofs.root.sqrt.Tie as tie
 
--- the parts of an infinity, and those of a finite number
-infinite : (c : tie.After-s) → c .before .before .before .args .x ≡ inf (c .s .given .0 .0)
-infinite c = subst (λ (p : Parts). Decoded p (c .before .before .before .args .x)) (c .s .given .1) (c .before .before .decode .ensures)
-
-parts : (c : tie.After-s2) → Decoded (Parts.Fin (c .s2 .given .0 .0) (c .s2 .given .0 .1 .0) (c .s2 .given .0 .1 .1 .0)) (c .before .before .before .args .x)
-parts c = subst (λ (p : Parts). Decoded p (c .before .before .before .args .x)) (c .s2 .given .1) (c .before .before .decode .ensures)
-
-some : (c : tie.Else2) → 0 < c .before .before .s2 .given .0 .1 .0
-some c = omega (arith, c .if2 .left)
-
-decode-requires : tie.Need-decode-requires
-decode-requires c κs = search needs
-
-enum-told : tie.Need-enum-told
-enum-told c = search needs
-
-enum-known-s : tie.Need-enum-known-s
-enum-known-s c = search needs
+-- the parts that the bits give
+parts : (c : tie.Then3) → Normal (c .before .before .before .args .x) (toBits binary32 (c .before .before .before .args .x))
+parts c = normal (c .before .before .before .args .x) (subst T (sym (c .before .before .before .good .0 .1)) tt) (c .before .if2 .taken) (c .if3 .taken)
 
 returns : tie.Need-returns
-returns c = let a = c .before .before in sym zero-by-zero ∙ root-neg-inf (a .before .before .before .args .x) (a .s .given .0 .0) (infinite a) (c .if1 .taken)
+returns c = root-nan (c .before .args .x) (differs-from-itself (c .before .args .x) (subst T (sym (c .if1 .taken)) tt))
 
-enum-known-s-2 : tie.Need-enum-known-s-2
-enum-known-s-2 c = search needs
+float-to-bits-b : tie.Need-float-to-bits-b
+float-to-bits-b c = equal-no-nan (c .before .args .x) (c .if1 .left)
 
-returns-2 : tie.Need-returns-2
-returns-2 c =
-    let a = c .before .before in
-    let v = a .s2 .given .0 in
-    root-zero (a .before .before .before .args .x) (v .0) (v .1 .0) (v .1 .1 .0) (parts a .0) (c .if2 .taken)
+sub-k : tie.Need-sub-k
+sub-k c = search needs
 
-returns-3 : tie.Need-returns-3
-returns-3 c =
-    let a = c .before .before .before in
-    let v = a .s2 .given .0 in
-    sym zero-by-zero ∙ root-negative (a .before .before .before .args .x) (v .0) (v .1 .0) (v .1 .1 .0) (parts a .0) (some (c .before)) (c .if3 .taken)
+add-root-of : tie.Need-add-root-of
+add-root-of c = search needs
+
+add-root-of-2 : tie.Need-add-root-of-2
+add-root-of-2 c = search needs
 
 root-of-requires : tie.Need-root-of-requires
 root-of-requires c κs =
-    let p = parts (c .before .before .before) in
-    record { some = some (c .before); digits = p .1 .digits; range = p .1 .range }
+    let p = parts c in
+    let b = toBits binary32 (c .before .before .before .args .x) in
+    (record { some = omega arith; digits = p .digits; range = p .range }, shift-normal (b % 8388608 + 8388608) (b / 8388608 - 1) (omega arith) (p .digits))
 
-returns-4 : tie.Need-returns-4
-returns-4 c = root-nan (c .before .before .before .args .x) (subst (λ (p : Parts). Decoded p (c .before .before .before .args .x)) (c .enum-told .given .1) (c .before .before .decode .ensures))
+returns-2 : tie.Need-returns-2
+returns-2 c =
+    let t = c .before in
+    let x = t .before .before .before .args .x in
+    let b = toBits binary32 x in
+    c .root-of .ensures ∙ root-positive x false (b % 8388608 + 8388608) (b / 8388608 - 1) (parts t .is) (omega arith) refl
 
-returns-5 : tie.Need-returns-5
-returns-5 c = let a = c .before .before in root-inf (a .before .before .before .args .x) (a .s .given .0 .0) (infinite a) (c .if1 .left)
+other-root-requires : tie.Need-other-root-requires
+other-root-requires c κs = search needs
 
-returns-6 : tie.Need-returns-6
-returns-6 c =
-    let a = c .before .before .before .before in
-    let v = a .s2 .given .0 in
-    c .root-of .ensures ∙ root-positive (a .before .before .before .args .x) (v .0) (v .1 .0) (v .1 .1 .0) (parts a .0) (some (c .before .before)) (c .before .if3 .left)
+returns-3 : tie.Need-returns-3
+returns-3 c = search needs
 
 pub sqrt-spec : {M : Type 1} → statement M
 sqrt-spec =
     tie.close
     (tie.spec
-    decode-requires
-    enum-told
-    enum-known-s
     returns
-    enum-known-s-2
-    returns-2
-    returns-3
+    float-to-bits-b
+    sub-k
+    add-root-of
+    add-root-of-2
     root-of-requires
-    returns-4
-    returns-5
-    returns-6)
+    returns-2
+    other-root-requires
+    returns-3)

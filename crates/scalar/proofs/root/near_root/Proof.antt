@@ -1,0 +1,64 @@
+use Prim.Native.Nat.{_+_, _*_, _/_}
+use native.Mathlib.Nat.{div-le-self}
+use native.Mathlib.Omega.{arith}
+use borrow.Author.Needs.{needs}
+use Rattle.scalar.proofs.NewtonLaws.{first-step}
+use Rattle.scalar.proofs.root.near_root.Statement.{statement}
+use Rattle.scalar.proofs.root.near_root.Tie as tie
+
+first-root-requires : tie.Need-first-root-requires
+first-root-requires c κs = search needs
+
+cast-d : tie.Need-cast-d
+cast-d c = search needs
+
+mul-d : tie.Need-mul-d
+mul-d c = search needs
+
+add-d : tie.Need-add-d
+add-d c = search needs
+
+cast-q : tie.Need-cast-q
+cast-q c = search needs
+
+div-q : tie.Need-div-q
+div-q c = search needs
+
+cast-result : tie.Need-cast-result
+cast-result c = search needs
+
+mul-result : tie.Need-mul-result
+mul-result c = search needs
+
+cast-result-2 : tie.Need-cast-result-2
+cast-result-2 c = let h = div-le-self (c .before .args .n / 65536) (4 * c .first-root .result + 5) in omega arith
+
+mul-result-2 : tie.Need-mul-result-2
+mul-result-2 c = let h = div-le-self (c .before .args .n / 65536) (4 * c .first-root .result + 5) in omega arith
+
+add-result : tie.Need-add-result
+add-result c = let h = div-le-self (c .before .args .n / 65536) (4 * c .first-root .result + 5) in omega arith
+
+add-result-2 : tie.Need-add-result-2
+add-result-2 c = let h = div-le-self (c .before .args .n / 65536) (4 * c .first-root .result + 5) in omega arith
+
+returns : tie.Need-returns
+returns c = first-step (c .before .args .n) (c .first-root .result) (c .before .pre .0) (c .before .pre .1) (c .first-root .ensures)
+
+pub near-root-spec : {M : Type 1} → statement M
+near-root-spec =
+    tie.close
+    (tie.spec
+    first-root-requires
+    cast-d
+    mul-d
+    add-d
+    cast-q
+    div-q
+    cast-result
+    mul-result
+    cast-result-2
+    mul-result-2
+    add-result
+    add-result-2
+    returns)
