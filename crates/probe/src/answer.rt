@@ -1,0 +1,120 @@
+// Writing an answer line: the refusal and the results in decimal.
+ghost use Prim.Native.Nat.{_+_, _≤_};
+ghost use lib.ListN.{length};
+ghost use Rattle.probe.specs.Bounds.{longest};
+
+// The refusals.
+pub(crate) const NONE: u32 = 0;
+
+pub(crate) const MALFORMED: u32 = 1;
+
+pub(crate) const UNKNOWN: u32 = 2;
+
+pub(crate) const INDEX: u32 = 10;
+
+// The most bytes of a line, `longest` of specs/.
+pub(crate) const LONGEST: usize = 77;
+
+// The refusal, and the first `count` of the results.
+pub(crate) struct Answer {
+    pub refusal: u32,
+    pub count: usize,
+    pub results: [u32; 6],
+}
+
+// The answer that refuses a call, with a zero for each of `count` results.
+pub(crate) fn refused(refusal: u32, count: usize) -> Answer
+    requires { ⌜ count ≤ 6 ⌝ }
+    ensures { λ r. ⌜ r .count ≤ 6 ⌝ }
+{
+    let results = [0u32; 6];
+    Answer {
+        refusal: refusal,
+        count: count,
+        results: results,
+    }
+}
+
+// The result of a function that gives a float: its bits.
+pub(crate) fn float(x: f32) -> [u32; 6] {
+    let bits = scalar::bits::to_bits(x);
+    [bits, 0, 0, 0, 0, 0]
+}
+
+// The result of a function that gives a bool.
+pub(crate) fn flag(b: bool) -> [u32; 6] {
+    if b {
+        [1, 0, 0, 0, 0, 0]
+    } else {
+        [0, 0, 0, 0, 0, 0]
+    }
+}
+
+// Writes the answer's line from `at` on, and gives the place behind it.
+pub(crate) fn put_answer(out: &mut [u8], at: usize, answer: Answer) -> usize
+    requires { ⌜ at + longest ≤ length (now out) ⌝ }
+    requires { ⌜ answer .count ≤ 6 ⌝ }
+    ensures { λ r. ⌜ r ≤ at + longest ⌝ }
+{
+    let count = answer.count;
+    let mut end = put_number(out, at, answer.refusal);
+    let mut i: usize = 0;
+    while i < count {
+        let n = answer.results[i];
+        out[end] = b' ';
+        end = put_number(out, end + 1, n);
+        i += 1;
+    }
+    out[end] = b'\n';
+    end + 1
+}
+
+// Writes the number from `at` on, and gives the place behind it.
+fn put_number(out: &mut [u8], at: usize, n: u32) -> usize
+    requires { ⌜ at + 10 ≤ length (now out) ⌝ }
+    ensures { λ r. ⌜ r ≤ at + 10 ⌝ }
+{
+    let end = at + digits(n);
+    let mut i = end;
+    let mut rest = n;
+    while at < i {
+        i -= 1;
+        out[i] = b'0' + (rest % 10) as u8;
+        rest = rest / 10;
+    }
+    end
+}
+
+// How many digits the number has.
+fn digits(n: u32) -> usize
+    ensures { λ r. ⌜ r ≤ 10 ⌝ }
+{
+    if n >= 1_000_000_000 {
+        return 10;
+    }
+    if n >= 100_000_000 {
+        return 9;
+    }
+    if n >= 10_000_000 {
+        return 8;
+    }
+    if n >= 1_000_000 {
+        return 7;
+    }
+    if n >= 100_000 {
+        return 6;
+    }
+    if n >= 10_000 {
+        return 5;
+    }
+    if n >= 1000 {
+        return 4;
+    }
+    if n >= 100 {
+        return 3;
+    }
+    if n >= 10 {
+        return 2;
+    }
+    1
+}

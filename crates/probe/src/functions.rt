@@ -1,0 +1,114 @@
+// The functions by number: what each takes and gives, and the answer to a call.
+ghost use Prim.Native.Nat.{_≤_};
+ghost use Rattle.probe.specs.Bounds.{Sizes};
+use crate::answer::Answer;
+use crate::answer::INDEX;
+use crate::answer::MALFORMED;
+use crate::answer::NONE;
+use crate::answer::UNKNOWN;
+use crate::answer::refused;
+use crate::scalars;
+
+// What a function takes and gives: the first `bools` of its arguments are bools, and where `index` is true the last one is an
+// index.
+struct Shape {
+    known: bool,
+    arguments: usize,
+    bools: usize,
+    index: bool,
+    results: usize,
+}
+
+// The shape of a number's function.
+fn shape_of(number: u32) -> Shape
+    ensures { λ r. ⌜ Sizes (r .arguments) (r .bools) (r .results) ⌝ }
+{
+    match number {
+        1 | 3..=6 | 8 | 12..=15 => row(1, 0, false, 1),
+        7 | 9..=11 => row(2, 0, false, 1),
+        _ => Shape {
+            known: false,
+            arguments: 0,
+            bools: 0,
+            index: false,
+            results: 0,
+        },
+    }
+}
+
+// A row: the arguments, the bools at their front, whether the last is an index, the results.
+fn row(arguments: usize, bools: usize, index: bool, results: usize) -> Shape
+    requires { ⌜ Sizes arguments bools results ⌝ }
+    ensures { λ r. ⌜ Sizes (r .arguments) (r .bools) (r .results) ⌝ }
+{
+    Shape {
+        known: true,
+        arguments: arguments,
+        bools: bools,
+        index: index,
+        results: results,
+    }
+}
+
+// The results of a function at the arguments behind its number in `values`.
+fn results_of(number: u32, values: &[u32; 10]) -> [u32; 6] {
+    match number {
+        1..=15 => scalars::results_of(number, values),
+        _ => [0; 6],
+    }
+}
+
+// The answer to a line of `count` numbers.
+pub(crate) fn answer_to(values: &[u32; 10], count: usize) -> Answer
+    ensures { λ r. ⌜ r .count ≤ 6 ⌝ }
+{
+    let number = values[0];
+    let shape = shape_of(number);
+    let refusal = refusal_of(shape, values, count);
+    if refusal == INDEX {
+        return refused(INDEX, shape.results);
+    }
+    if refusal != NONE {
+        return refused(refusal, 0);
+    }
+    let results = results_of(number, values);
+    Answer {
+        refusal: NONE,
+        count: shape.results,
+        results: results,
+    }
+}
+
+// The refusal of a line of `count` numbers.
+fn refusal_of(shape: Shape, values: &[u32; 10], count: usize) -> u32
+    requires { ⌜ Sizes (shape .arguments) (shape .bools) (shape .results) ⌝ }
+{
+    if !shape.known {
+        return UNKNOWN;
+    }
+    if count != shape.arguments + 1 {
+        return MALFORMED;
+    }
+    if !are_bools(values, shape.bools) {
+        return MALFORMED;
+    }
+    let last = shape.arguments;
+    if shape.index && values[last] > 2 {
+        return INDEX;
+    }
+    NONE
+}
+
+// Whether each of the first arguments is 0 or 1.
+fn are_bools(values: &[u32; 10], bools: usize) -> bool
+    requires { ⌜ bools ≤ 9 ⌝ }
+{
+    let mut i: usize = 0;
+    while i < bools {
+        i += 1;
+        if values[i] > 1 {
+            return false;
+        }
+    }
+    true
+}

@@ -1,0 +1,43 @@
+// The scalar functions, 1 to 15.
+use crate::answer::flag;
+use crate::answer::float;
+use scalar::acos::acos_approx;
+use scalar::bits::from_bits;
+use scalar::euclid::div_euclid;
+use scalar::euclid::rem;
+use scalar::euclid::rem_euclid;
+use scalar::integral::floor;
+use scalar::integral::round;
+use scalar::integral::trunc;
+use scalar::root::sqrt;
+use scalar::sign::abs;
+use scalar::sign::copysign_bits;
+use scalar::sign::is_finite;
+use scalar::sign::is_nan;
+use scalar::sign::is_sign_negative_bits;
+use scalar::sign::signum;
+
+// The results of a function at the arguments behind its number in `values`.
+pub(crate) fn results_of(number: u32, values: &[u32; 10]) -> [u32; 6] {
+    let a = values[1];
+    let b = values[2];
+    let x = from_bits(a);
+    let y = from_bits(b);
+    match number {
+        1 => float(sqrt(x)),
+        3 => float(trunc(x)),
+        4 => float(floor(x)),
+        5 => float(round(x)),
+        6 => float(abs(x)),
+        7 => float(from_bits(copysign_bits(a, b))),
+        8 => float(signum(x)),
+        9 => float(rem(x, y)),
+        10 => float(div_euclid(x, y)),
+        11 => float(rem_euclid(x, y)),
+        12 => float(acos_approx(x)),
+        13 => flag(is_finite(x)),
+        14 => flag(is_nan(x)),
+        15 => flag(is_sign_negative_bits(a)),
+        _ => [0; 6],
+    }
+}
