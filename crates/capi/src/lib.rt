@@ -1,6 +1,7 @@
 // The bench for Rust and C: functions on plain numbers, in a static library.
 ghost use mathlib.Core.Path.{_≡_};
 ghost use Rattle.scalar.specs.Root as Root;
+ghost use Rattle.scalar.specs.Fused as Fused;
 ghost use Rattle.scalar.specs.Integral as Integral;
 
 #[no_mangle]
@@ -8,6 +9,13 @@ pub extern "C" fn bench_sqrt(x: f32) -> f32
     ensures { λ r. ⌜ r ≡ Root.root x ⌝ }
 {
     scalar::root::sqrt(x)
+}
+
+#[no_mangle]
+pub extern "C" fn bench_mul_add(a: f32, b: f32, c: f32) -> f32
+    ensures { λ r. ⌜ r ≡ Fused.mulAdd a b c ⌝ }
+{
+    scalar::fused::mul_add(a, b, c)
 }
 
 #[no_mangle]

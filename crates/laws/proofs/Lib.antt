@@ -18,3 +18,6 @@ pub mod OverflowLaws
 pub mod RoundNearest
 pub mod TableLaws
 pub mod Examples
+pub mod JamLaws
+pub mod LeadingLaws
+pub mod SumSigns

@@ -25,6 +25,7 @@ fn shape_of(number: u32) -> Shape
 {
     match number {
         1 | 3..=6 | 8 | 12..=15 => row(1, 0, false, 1),
+        2 => row(3, 0, false, 1),
         7 | 9..=11 => row(2, 0, false, 1),
         _ => Shape {
             known: false,

@@ -6,6 +6,7 @@ use scalar::bits::from_bits;
 use scalar::euclid::div_euclid;
 use scalar::euclid::rem;
 use scalar::euclid::rem_euclid;
+use scalar::fused::mul_add;
 use scalar::integral::floor;
 use scalar::integral::round;
 use scalar::integral::trunc;
@@ -25,6 +26,7 @@ pub(crate) fn results_of(number: u32, values: &[u32; 10]) -> [u32; 6] {
     let y = from_bits(b);
     match number {
         1 => float(sqrt(x)),
+        2 => float(mul_add(x, y, from_bits(values[3]))),
         3 => float(trunc(x)),
         4 => float(floor(x)),
         5 => float(round(x)),

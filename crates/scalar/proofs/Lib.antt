@@ -17,3 +17,9 @@ pub mod FusedSum
 pub mod FusedMeaningLaws
 pub mod RemainderLaws
 pub mod ComposedLaws
+pub mod PlaceLaws
+pub mod WordLaws
+pub mod RoundPackLaws
+pub mod RoundJamLaws
+pub mod AlignLaws
+pub mod FusedLaws

@@ -11,3 +11,4 @@ pub mod RemainderMeaning
 pub mod Acos
 pub mod Parts
 pub mod Corners
+pub mod FusedParts

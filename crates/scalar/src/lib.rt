@@ -3,6 +3,8 @@ pub mod acos;
 pub mod bits;
 pub mod euclid;
 mod first_roots;
+pub mod fused;
 pub mod integral;
 pub mod root;
+pub mod round_pack;
 pub mod sign;
