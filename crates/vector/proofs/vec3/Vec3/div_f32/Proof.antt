@@ -1,0 +1,11 @@
+use mathlib.Core.Path.{refl}
+use Rattle.vector.specs.Operators.{divNumber}
+use Rattle.vector.proofs.vec3.Vec3.div_f32.Statement.{statement}
+use Rattle.vector.proofs.vec3.Vec3.div_f32.Tie as tie
+
+returns : tie.Need-returns
+unfolding divNumber
+returns c = refl
+
+pub div-f32-spec : {M : Type 1} → statement M
+div-f32-spec = tie.close (tie.spec returns)
