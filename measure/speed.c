@@ -1,5 +1,7 @@
 /* Times the bench's scalar functions beside Berkeley SoftFloat 3 and the hardware, in one run, on the same operands.
-   First it compares all answers bit by bit (a NaN matches a NaN). Built and run by ./run. */
+   First it compares all answers bit by bit (a NaN matches a NaN). Built and run by ./run.
+   Each figure is the least of many short turns, the three taken in turn, so that other work on the machine disturbs few of them.
+   Independent calls: each has operands of its own. Chained calls: the last bit of an answer goes into the next call's operand. */
 #include <math.h>
 #include <stdint.h>
 #include <stdio.h>
@@ -14,7 +16,7 @@ float bench_trunc(float);
 float bench_floor(float);
 float bench_round(float);
 
-enum { COUNT = 4096, PASSES = 400, ROUNDS = 15 };
+enum { COUNT = 4096, TURNS = 600, BLOCKS = 200 };
 
 static uint32_t x[COUNT], y[COUNT], z[COUNT];
 static uint32_t sink;
@@ -32,24 +34,25 @@ static float f(uint32_t b) { float v; memcpy(&v, &b, 4); return v; }
 static uint32_t u(float v) { uint32_t b; memcpy(&b, &v, 4); return b; }
 
 #define SOFT(b) ((float32_t){b})
-#define HARD __attribute__((target("fma,sse4.1"), noinline))
+#define HARD __attribute__((target("fma,sse4.1")))
 
-/* One call of each function, by whom it is answered. */
-static uint32_t own_sqrt(int i) { return u(bench_sqrt(f(x[i] & 0x7fffffff))); }
-static uint32_t soft_sqrt(int i) { return f32_sqrt(SOFT(x[i] & 0x7fffffff)).v; }
-HARD static uint32_t hard_sqrt(int i) { return u(__builtin_sqrtf(f(x[i] & 0x7fffffff))); }
-static uint32_t own_mul_add(int i) { return u(bench_mul_add(f(x[i]), f(y[i]), f(z[i]))); }
-static uint32_t soft_mul_add(int i) { return f32_mulAdd(SOFT(x[i]), SOFT(y[i]), SOFT(z[i])).v; }
-HARD static uint32_t hard_mul_add(int i) { return u(__builtin_fmaf(f(x[i]), f(y[i]), f(z[i]))); }
-static uint32_t own_trunc(int i) { return u(bench_trunc(f(x[i]))); }
-static uint32_t soft_trunc(int i) { return f32_roundToInt(SOFT(x[i]), softfloat_round_minMag, 0).v; }
-HARD static uint32_t hard_trunc(int i) { return u(__builtin_truncf(f(x[i]))); }
-static uint32_t own_floor(int i) { return u(bench_floor(f(x[i]))); }
-static uint32_t soft_floor(int i) { return f32_roundToInt(SOFT(x[i]), softfloat_round_min, 0).v; }
-HARD static uint32_t hard_floor(int i) { return u(__builtin_floorf(f(x[i]))); }
-static uint32_t own_round(int i) { return u(bench_round(f(x[i]))); }
-static uint32_t soft_round(int i) { return f32_roundToInt(SOFT(x[i]), softfloat_round_near_even, 0).v; }
-HARD static uint32_t hard_round(int i) { return u(__builtin_rintf(f(x[i]))); }
+/* One call of each function on the operands a, b, c, by whom it is answered. */
+#define FORM(name) static uint32_t name(uint32_t a, uint32_t b, uint32_t c)
+FORM(own_sqrt) { (void)b; (void)c; return u(bench_sqrt(f(a & 0x7fffffff))); }
+FORM(soft_sqrt) { (void)b; (void)c; return f32_sqrt(SOFT(a & 0x7fffffff)).v; }
+HARD FORM(hard_sqrt) { (void)b; (void)c; return u(__builtin_sqrtf(f(a & 0x7fffffff))); }
+FORM(own_mul_add) { return u(bench_mul_add(f(a), f(b), f(c))); }
+FORM(soft_mul_add) { return f32_mulAdd(SOFT(a), SOFT(b), SOFT(c)).v; }
+HARD FORM(hard_mul_add) { return u(__builtin_fmaf(f(a), f(b), f(c))); }
+FORM(own_trunc) { (void)b; (void)c; return u(bench_trunc(f(a))); }
+FORM(soft_trunc) { (void)b; (void)c; return f32_roundToInt(SOFT(a), softfloat_round_minMag, 0).v; }
+HARD FORM(hard_trunc) { (void)b; (void)c; return u(__builtin_truncf(f(a))); }
+FORM(own_floor) { (void)b; (void)c; return u(bench_floor(f(a))); }
+FORM(soft_floor) { (void)b; (void)c; return f32_roundToInt(SOFT(a), softfloat_round_min, 0).v; }
+HARD FORM(hard_floor) { (void)b; (void)c; return u(__builtin_floorf(f(a))); }
+FORM(own_round) { (void)b; (void)c; return u(bench_round(f(a))); }
+FORM(soft_round) { (void)b; (void)c; return f32_roundToInt(SOFT(a), softfloat_round_near_even, 0).v; }
+HARD FORM(hard_round) { (void)b; (void)c; return u(__builtin_rintf(f(a))); }
 
 static double now(void)
 {
@@ -58,44 +61,46 @@ static double now(void)
     return (double)t.tv_sec + 1e-9 * (double)t.tv_nsec;
 }
 
-/* Nanoseconds a call. Independent calls: each works on its own operands. */
-#define TIME(name, who)                                          \
-    static double time_##who##_##name(void)                      \
-    {                                                            \
-        double start = now();                                    \
-        for (int p = 0; p < PASSES; p++)                         \
-            for (int i = 0; i < COUNT; i++)                      \
-                sink ^= who##_##name(i);                         \
-        return (now() - start) * 1e9 / PASSES / COUNT;           \
+/* The least nanoseconds a call so far. */
+struct figure { double independent, chained; };
+static double least(double a, double b) { return a < b ? a : b; }
+
+#define TURN(figure, call)                                                      \
+    {                                                                           \
+        double start = now();                                                   \
+        for (int i = 0; i < COUNT; i++)                                         \
+            sink ^= call(x[i], y[i], z[i]);                                     \
+        figure.independent = least(figure.independent, (now() - start) * 1e9 / COUNT); \
+        uint32_t last = 0;                                                      \
+        start = now();                                                          \
+        for (int i = 0; i < COUNT; i++)                                         \
+            last = call(x[i] ^ (last & 1), y[i], z[i]);                         \
+        figure.chained = least(figure.chained, (now() - start) * 1e9 / COUNT);  \
+        sink ^= last;                                                           \
     }
-#define EACH(name) TIME(name, own) TIME(name, soft) TIME(name, hard)
-EACH(sqrt)
-EACH(mul_add)
-EACH(trunc)
-EACH(floor)
-EACH(round)
+
+#define REPORT(name, label)                                                     \
+    {                                                                           \
+        struct figure own = {1e9, 1e9}, soft = own, hard = own;                 \
+        for (int t = 0; t < TURNS; t++) {                                       \
+            TURN(own, own_##name)                                               \
+            TURN(soft, soft_##name)                                             \
+            TURN(hard, hard_##name)                                             \
+        }                                                                       \
+        printf("| %s | %.1f / %.1f | %.1f / %.1f | %.1f / %.1f | %.2f / %.2f |\n", label, own.independent, own.chained, soft.independent, \
+               soft.chained, hard.independent, hard.chained, own.independent / soft.independent, own.chained / soft.chained); \
+    }
 
 static int nan_bits(uint32_t b) { return (b & 0x7fffffff) > 0x7f800000; }
 static int same(uint32_t a, uint32_t b) { return a == b || (nan_bits(a) && nan_bits(b)); }
 
-static double least(double a, double b) { return a < b ? a : b; }
-
-#define COMPARE(name)                                                                               \
-    for (int i = 0; i < COUNT; i++)                                                                 \
-        if (!same(own_##name(i), soft_##name(i)) || !same(own_##name(i), hard_##name(i))) {          \
-            printf("differs: " #name " of %08x %08x %08x\n", x[i], y[i], z[i]);                     \
-            exit(1);                                                                                \
-        }
-
-#define REPORT(name, label)                                                                         \
-    {                                                                                               \
-        double own = 1e9, soft = 1e9, hard = 1e9;                                                   \
-        for (int r = 0; r < ROUNDS; r++) {                                                          \
-            own = least(own, time_own_##name());                                                    \
-            soft = least(soft, time_soft_##name());                                                 \
-            hard = least(hard, time_hard_##name());                                                 \
-        }                                                                                           \
-        printf("| %s | %.1f | %.1f | %.1f | %.2f |\n", label, own, soft, hard, own / soft);          \
+#define COMPARE(name)                                                           \
+    for (int i = 0; i < COUNT; i++) {                                           \
+        uint32_t own = own_##name(x[i], y[i], z[i]);                            \
+        if (!same(own, soft_##name(x[i], y[i], z[i])) || !same(own, hard_##name(x[i], y[i], z[i]))) { \
+            printf("differs: " #name " of %08x %08x %08x\n", x[i], y[i], z[i]); \
+            exit(1);                                                            \
+        }                                                                       \
     }
 
 /* `ordinary`: exponents within 2^-27 and 2^27 of 1. Otherwise any bits: subnormals, infinities and NaNs among them. */
@@ -111,21 +116,20 @@ static void fill(int ordinary)
 
 int main(void)
 {
-    for (int t = 0; t < 200; t++) {
+    for (int t = 0; t < BLOCKS; t++) {
         fill(t % 2);
         COMPARE(sqrt) COMPARE(mul_add) COMPARE(trunc) COMPARE(floor) COMPARE(round)
     }
-    printf("answers equal on %d operands of each function\n\n", 200 * COUNT);
+    printf("The answers of the three are equal on %d operands of each function.\n", BLOCKS * COUNT);
     for (int ordinary = 1; ordinary >= 0; ordinary--) {
         fill(ordinary);
-        printf("%s\n\n", ordinary ? "Ordinary operands:" : "Any bits:");
-        printf("| function | bench, ns | SoftFloat, ns | hardware, ns | bench / SoftFloat |\n|---|---|---|---|---|\n");
+        printf("\n%s, ns a call, independent / chained:\n\n", ordinary ? "Ordinary operands" : "Any bits");
+        printf("| function | bench | SoftFloat | hardware | bench to SoftFloat |\n|---|---|---|---|---|\n");
         REPORT(sqrt, "root")
         REPORT(mul_add, "fused product")
         REPORT(trunc, "`trunc`")
         REPORT(floor, "`floor`")
         REPORT(round, "`round`")
-        printf("\n");
     }
     return sink == 1 ? 2 : 0;
 }

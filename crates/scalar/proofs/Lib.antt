@@ -9,7 +9,7 @@ pub mod NewtonLaws
 pub mod RootLaws
 pub mod RootPartsLaws
 pub mod RootCases
-pub mod RootNearestLaws
+pub mod RootMeaningLaws
 pub mod IntegralLaws
 pub mod IntegralRules
 pub mod IntegralMeaningLaws

@@ -1,6 +1,6 @@
 pub mod Sign
 pub mod Root
-pub mod RootNearest
+pub mod RootMeaning
 pub mod RootParts
 pub mod Fused
 pub mod FusedMeaning

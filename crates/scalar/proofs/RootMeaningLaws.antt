@@ -18,7 +18,7 @@ use Rattle.laws.proofs.RingNat.{ring}
 use Rattle.laws.proofs.SizeLaws.{Digits, digits, size-of-value, coarse}
 use Rattle.scalar.specs.Root.{root, rootUnits}
 use Rattle.scalar.specs.RootParts.{NearRoot, Shift}
-use Rattle.scalar.specs.RootNearest.{NearestRoot, radicand}
+use Rattle.scalar.specs.RootMeaning.{NearestRoot, radicand}
 use Rattle.scalar.proofs.WholeRootLaws.{square-mono}
 use Rattle.scalar.proofs.RootLaws.{scaled-le, scaled-lt, scaled-gt, half-below}
 use Rattle.scalar.proofs.RootPartsLaws.{half, shift-is, nearest-root, radicand-is, root-units, units-fit}
@@ -140,8 +140,8 @@ finite-of-size (fin s m e) h = tt
 multiples : (y : Float) (h : ℕ) → T (fits binary32 y) → Coarse (2 ^ h) (sizeIn binary32 y)
 multiples y h F l = coarse binary32 y h F (finite-of-size y (lt-of-lt-of-le (mul-pos (lit< tt) (pow-pos h)) l)) (le-trans (le-of-eq (pow-add 2 23 h)) l)
 
-pub root-nearest : (x : Float) → T (fits binary32 x) → T (finite x) → negative x ≡ false → 0 < sizeIn binary32 x → NearestRoot x (root x)
-root-nearest x F N P S = record {
+pub root-means : (x : Float) → T (fits binary32 x) → T (finite x) → negative x ≡ false → 0 < sizeIn binary32 x → NearestRoot x (root x)
+root-means x F N P S = record {
   value = R .fit;
   number = positive-finite (root x) (positive-of-value (root x) ((R .p + 1) * u) (2 ^ 149) (R .value) (lt-of-lt-of-le (mul-pos (lit< tt) U) (mul-le-mul-right u (R .near .least))));
   sign = size-of-value binary32 (root x) false ((R .p + 1) * u) (R .value) .1;
