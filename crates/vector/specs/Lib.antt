@@ -1,3 +1,13 @@
 pub mod Vectors
 pub mod Operators
 pub mod Products
+pub mod MinMax
+pub mod Rounding
+pub mod SaturateMeaning
+pub mod Interpolation
+pub mod Optics
+pub mod OpticsAsserts
+pub mod OpticsCorners
+pub mod Orthogonal
+pub mod OrthogonalMeaning
+pub mod OrthogonalCorners

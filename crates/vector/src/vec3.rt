@@ -1,6 +1,11 @@
 // A vector of three f32 numbers (src/f32/vec3.rs).
+mod interpolation;
+mod min_max;
 mod operators;
+mod optics;
+pub mod orthogonal;
 mod products;
+mod rounding;
 
 ghost use mathlib.Core.Path.{_≡_};
 ghost use Rattle.vector.specs.Vectors as Vectors;

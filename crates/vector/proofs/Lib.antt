@@ -1,0 +1,2 @@
+pub mod SaturateLaws
+pub mod OrthogonalLaws
