@@ -1,2 +1,6 @@
 pub mod SaturateLaws
 pub mod OrthogonalLaws
+pub mod SquaredLengthLaws
+pub mod RootOrderLaws
+pub mod ReciprocalLaws
+pub mod NormalizingLaws

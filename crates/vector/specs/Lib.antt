@@ -6,8 +6,12 @@ pub mod Rounding
 pub mod SaturateMeaning
 pub mod Interpolation
 pub mod Optics
-pub mod OpticsAsserts
 pub mod OpticsCorners
 pub mod Orthogonal
 pub mod OrthogonalMeaning
 pub mod OrthogonalCorners
+pub mod Normalizing
+pub mod NormalizingMeaning
+pub mod Projections
+pub mod LengthClamps
+pub mod Asserts

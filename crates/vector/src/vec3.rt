@@ -1,10 +1,13 @@
 // A vector of three f32 numbers (src/f32/vec3.rs).
 mod interpolation;
+mod length_clamps;
 mod min_max;
+pub mod normalizing;
 mod operators;
 mod optics;
 pub mod orthogonal;
 mod products;
+mod projections;
 mod rounding;
 
 ghost use mathlib.Core.Path.{_≡_};

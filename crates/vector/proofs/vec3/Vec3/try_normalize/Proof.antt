@@ -1,0 +1,31 @@
+use Rattle.vector.specs.Normalizing.{tryNormalize}
+use borrow.Author.Needs.{needs}
+use Rattle.vector.proofs.vec3.Vec3.try_normalize.Statement.{statement}
+use Rattle.vector.proofs.vec3.Vec3.try_normalize.Tie as tie
+
+length-recip-requires : tie.Need-length-recip-requires
+length-recip-requires c κs = search needs
+
+usable-requires : tie.Need-usable-requires
+usable-requires c κs = search needs
+
+mul-f32-requires : tie.Need-mul-f32-requires
+mul-f32-requires c κs = search needs
+
+returns : tie.Need-returns
+unfolding tryNormalize
+returns c =
+    simp (
+      ← c .before .before .before .length-recip .ensures,
+      ← c .before .before .usable .ensures,
+      c .before .if1 .taken,
+      ← c .mul-f32 .ensures,
+    )
+
+returns-2 : tie.Need-returns-2
+unfolding tryNormalize
+returns-2 c = simp (← c .before .before .length-recip .ensures, ← c .before .usable .ensures, c .if1 .left)
+
+pub try-normalize-spec : {M : Type 1} → statement M
+try-normalize-spec =
+    tie.close (tie.spec length-recip-requires usable-requires mul-f32-requires returns returns-2)

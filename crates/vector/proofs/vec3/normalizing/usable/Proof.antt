@@ -1,0 +1,18 @@
+use Rattle.vector.specs.Normalizing.{usable}
+use borrow.Author.Needs.{needs}
+use Rattle.vector.proofs.vec3.normalizing.usable.Statement.{statement}
+use Rattle.vector.proofs.vec3.normalizing.usable.Tie as tie
+
+is-finite-requires : tie.Need-is-finite-requires
+is-finite-requires c κs = search needs
+
+returns : tie.Need-returns
+unfolding usable
+returns c = simp (← c .before .is-finite .ensures, c .if1 .taken)
+
+returns-2 : tie.Need-returns-2
+unfolding usable
+returns-2 c = simp (← c .before .is-finite .ensures, c .if1 .left)
+
+pub usable-spec : {M : Type 1} → statement M
+usable-spec = tie.close (tie.spec is-finite-requires returns returns-2)

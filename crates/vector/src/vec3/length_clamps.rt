@@ -1,0 +1,45 @@
+// Lengths held between bounds.
+ghost use mathlib.Core.Path.{_≡_};
+ghost use Rattle.vector.specs.LengthClamps as LengthClamps;
+use crate::vec3::Vec3;
+use scalar::root::sqrt;
+
+impl Vec3 {
+    // A vector with a length no less than min and no more than max.
+    pub fn clamp_length(self, min: f32, max: f32) -> Vec3
+        ensures { λ r. ⌜ r ≡ LengthClamps.clampLength self min max ⌝ }
+    {
+        let length_sq = self.length_squared();
+        if length_sq < min * min {
+            Vec3::f32_mul(min, self.div_f32(sqrt(length_sq)))
+        } else if length_sq > max * max {
+            Vec3::f32_mul(max, self.div_f32(sqrt(length_sq)))
+        } else {
+            self
+        }
+    }
+
+    // A vector with a length no more than max.
+    pub fn clamp_length_max(self, max: f32) -> Vec3
+        ensures { λ r. ⌜ r ≡ LengthClamps.clampLengthMax self max ⌝ }
+    {
+        let length_sq = self.length_squared();
+        if length_sq > max * max {
+            Vec3::f32_mul(max, self.div_f32(sqrt(length_sq)))
+        } else {
+            self
+        }
+    }
+
+    // A vector with a length no less than min.
+    pub fn clamp_length_min(self, min: f32) -> Vec3
+        ensures { λ r. ⌜ r ≡ LengthClamps.clampLengthMin self min ⌝ }
+    {
+        let length_sq = self.length_squared();
+        if length_sq < min * min {
+            Vec3::f32_mul(min, self.div_f32(sqrt(length_sq)))
+        } else {
+            self
+        }
+    }
+}
