@@ -1,6 +1,11 @@
-pub mod SaturateLaws
-pub mod OrthogonalLaws
+pub mod MaskLaws
+pub mod IndexedLaws
+pub mod OrderLaws
+pub mod ClampLaws
+pub mod PositionLaws
+pub mod SignsLaws
 pub mod SquaredLengthLaws
 pub mod RootOrderLaws
 pub mod ReciprocalLaws
 pub mod NormalizingLaws
+pub mod OrthogonalLaws

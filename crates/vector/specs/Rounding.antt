@@ -1,12 +1,12 @@
 -- Divisions with a remainder, roundings, parts and reciprocals of each component, as src/f32/vec3.rs has them.
-use mathlib.Core.Bool.{cond}
-use lib.Ieee.{Float, binary32, div, lt}
+use lib.Ieee.{Float, binary32, div}
 use Rattle.scalar.specs.Euclid as Euclid
 use Rattle.scalar.specs.Integral as Integral
 use Rattle.vector.specs.declared.vec3.Vec3.{Vec3}
-use Rattle.vector.specs.Vectors.{zer, one, each, both}
+use Rattle.vector.specs.Vectors.{one, ZERO, ONE, each, both}
 use Rattle.vector.specs.Operators.{sub}
-use Rattle.vector.specs.MinMax.{minOf, maxOf}
+use Rattle.vector.specs.Elements.{select, clamp}
+use Rattle.vector.specs.Comparisons.{cmplt}
 
 -- math::div_euclid(self.x, rhs.x) and so on
 unfoldable pub divEuclid : Vec3 → Vec3 → Vec3
@@ -28,19 +28,13 @@ floor a = each Integral.floor a
 unfoldable pub trunc : Vec3 → Vec3
 trunc a = each Integral.trunc a
 
--- select(rhs.cmplt(self), ZERO, ONE), of a component
-unfoldable pub stepOf : Float → Float → Float
-stepOf edge v = cond (lt v edge) zer one
-
+-- Self::select(rhs.cmplt(self), Self::ZERO, Self::ONE)
 unfoldable pub step : Vec3 → Vec3 → Vec3
-step a b = both stepOf a b
+step a b = select (cmplt b a) ZERO ONE
 
--- self.clamp(ZERO, ONE), which is self.max(ZERO).min(ONE), of a component
-unfoldable pub saturateOf : Float → Float
-saturateOf v = minOf (maxOf v zer) one
-
+-- self.clamp(Self::ZERO, Self::ONE)
 unfoldable pub saturate : Vec3 → Vec3
-saturate a = each saturateOf a
+saturate a = clamp a ZERO ONE
 
 -- self - self.trunc()
 unfoldable pub fract : Vec3 → Vec3

@@ -1,7 +1,10 @@
 // A vector of three f32 numbers (src/f32/vec3.rs).
+mod comparisons;
+mod elements;
+mod homogeneous;
+pub mod index;
 mod interpolation;
 mod length_clamps;
-mod min_max;
 pub mod normalizing;
 mod operators;
 mod optics;
@@ -9,6 +12,7 @@ pub mod orthogonal;
 mod products;
 mod projections;
 mod rounding;
+mod signs;
 
 ghost use mathlib.Core.Path.{_≡_};
 ghost use Rattle.vector.specs.Vectors as Vectors;

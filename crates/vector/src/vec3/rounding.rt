@@ -2,8 +2,6 @@
 ghost use mathlib.Core.Path.{_≡_};
 ghost use Rattle.vector.specs.Rounding as Rounding;
 use crate::vec3::Vec3;
-use crate::vec3::min_max::max_f32;
-use crate::vec3::min_max::min_f32;
 use scalar::euclid;
 use scalar::integral;
 
@@ -67,22 +65,14 @@ impl Vec3 {
     pub fn step(self, rhs: Vec3) -> Vec3
         ensures { λ r. ⌜ r ≡ Rounding.step self rhs ⌝ }
     {
-        Vec3 {
-            x: step_f32(self.x, rhs.x),
-            y: step_f32(self.y, rhs.y),
-            z: step_f32(self.z, rhs.z),
-        }
+        Vec3::select(rhs.cmplt(self), Vec3::ZERO, Vec3::ONE)
     }
 
     // Each component clamped to 0.0 .. 1.0.
     pub fn saturate(self) -> Vec3
         ensures { λ r. ⌜ r ≡ Rounding.saturate self ⌝ }
     {
-        Vec3 {
-            x: saturate_f32(self.x),
-            y: saturate_f32(self.y),
-            z: saturate_f32(self.z),
-        }
+        self.clamp(Vec3::ZERO, Vec3::ONE)
     }
 
     // The fractional parts, with the signs of the components.
@@ -109,16 +99,4 @@ impl Vec3 {
             z: 1.0 / self.z,
         }
     }
-}
-
-fn step_f32(edge: f32, v: f32) -> f32
-    ensures { λ r. ⌜ r ≡ Rounding.stepOf edge v ⌝ }
-{
-    if v < edge { 0.0 } else { 1.0 }
-}
-
-fn saturate_f32(v: f32) -> f32
-    ensures { λ r. ⌜ r ≡ Rounding.saturateOf v ⌝ }
-{
-    min_f32(max_f32(v, 0.0), 1.0)
 }

@@ -1,0 +1,16 @@
+-- The bits of a mask, joined by `|` at their places, are their sum. Assumes nothing.
+use mathlib.Core.Path.{_≡_, refl}
+use mathlib.Core.Bool.{Bool, true, false}
+use Prim.Native.Nat.{ℕ, _+_, _*_, _%_}
+use lib.Bits.{bitOr}
+use Rattle.vector.specs.Masks.{bit}
+
+pub bits-sum : (x y z : Bool) → bitOr (bitOr (bit x) (bit y * 2 % 4294967296)) (bit z * 4 % 4294967296) ≡ bit x + bit y * 2 + bit z * 4
+bits-sum false false false = refl
+bits-sum false false true = refl
+bits-sum false true false = refl
+bits-sum false true true = refl
+bits-sum true false false = refl
+bits-sum true false true = refl
+bits-sum true true false = refl
+bits-sum true true true = refl

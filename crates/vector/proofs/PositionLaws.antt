@@ -1,0 +1,117 @@
+-- The positions are at most 2; without NaNs they are those of the first least and of the first greatest component. Assumes nothing.
+use mathlib.Core.Path.{_≡_}
+use mathlib.Core.Bool.{Bool, true, false, not, _||_, cond, true≢false}
+use Prim.Native.Nat.{ℕ, zero, suc, _≤_, _<_}
+use native.Mathlib.Omega.{arith}
+use lib.Dec.{T, lit≤}
+use lib.Ieee.{Float, lt, isNan}
+use Rattle.vector.specs.declared.vec3.Vec3.{Vec3}
+use Rattle.vector.specs.Indexed.{indexed, component}
+use Rattle.vector.specs.Comparisons as Comparisons
+use Rattle.vector.specs.Elements.{gt, position, minPosition, maxPosition}
+use Rattle.vector.specs.ElementsMeaning.{Positions, at, First}
+use Rattle.vector.proofs.OrderLaws.{lt-once, lt-split}
+
+position-small : (before : Float → Float → Bool) (a : Vec3) → position before a ≤ 2
+unfolding position
+position-small before a = go (before (a .z) (cond (before (a .y) (a .x)) (a .y) (a .x))) (before (a .y) (a .x))
+  where
+    go : (b c : Bool) → cond b 2 (cond c 1 0) ≤ 2
+    go true c = lit≤ tt
+    go false true = lit≤ tt
+    go false false = lit≤ tt
+
+pub positions : (a : Vec3) → Positions a
+unfolding minPosition maxPosition
+positions a = record { least = position-small lt a; greatest = position-small gt a }
+
+-- ---- the positions are the first ones
+
+-- for each index
+by-index : (P : ℕ → Type 0) → P 0 → P 1 → P 2 → (j : ℕ) → j ≤ 2 → P j
+by-index P x y z zero h = x
+by-index P x y z (suc zero) h = y
+by-index P x y z (suc (suc zero)) h = z
+by-index P x y z (suc (suc (suc j))) h = absurd (omega arith)
+
+module _ (before : Float → Float → Bool)
+    (once : (x y : Float) → T (before x y) → T (not (before y x)))
+    (split : (z x y : Float) → T (not (isNan y)) → T (before z x) → T (not (before y x)) → T (before z y)) where
+  never : (x : Float) → T (not (before x x))
+  never x = go (before x x) (once x x)
+    where
+      go : (b : Bool) → (T b → T (not b)) → T (not b)
+      go true h = h tt
+      go false h = tt
+
+  module _ (a : Vec3) where
+    at-0 : T (not (before (a .y) (a .x))) → T (not (before (a .z) (a .x))) → First before a 0
+    unfolding component indexed
+    at-0 y z = record {
+      none = by-index (λ (j : ℕ). T (not (before (at a j) (a .x)))) (never (a .x)) y z;
+      lower = λ j h. absurd (omega arith);
+    }
+
+    at-1 : T (before (a .y) (a .x)) → T (not (before (a .z) (a .y))) → First before a 1
+    unfolding component indexed
+    at-1 x z = record {
+      none = by-index (λ (j : ℕ). T (not (before (at a j) (a .y)))) (once (a .y) (a .x) x) (never (a .y)) z;
+      lower = λ j h. by-index (λ (j : ℕ). j < 1 → T (before (a .y) (at a j))) (λ h. x) (λ h. absurd (omega arith)) (λ h. absurd (omega arith)) j (omega arith) h;
+    }
+
+    at-2 : T (before (a .z) (a .x)) → T (before (a .z) (a .y)) → First before a 2
+    unfolding component indexed
+    at-2 x y = record {
+      none = by-index (λ (j : ℕ). T (not (before (at a j) (a .z)))) (once (a .z) (a .x) x) (once (a .z) (a .y) y) (never (a .z));
+      lower = λ j h. by-index (λ (j : ℕ). j < 2 → T (before (a .z) (at a j))) (λ h. x) (λ h. y) (λ h. absurd (omega arith)) j (omega arith) h;
+    }
+
+    is-first : T (not (isNan (a .x))) → T (not (isNan (a .y))) → First before a (position before a)
+    unfolding position
+    is-first x y = go (before (a .y) (a .x)) (λ h. h) (λ h. h)
+      where
+        later : (m : Float) (i : ℕ) (b : Bool)
+            → (T b → T (before (a .z) m))
+            → (T (not b) → T (not (before (a .z) m)))
+            → (T (before (a .z) m) → First before a 2)
+            → (T (not (before (a .z) m)) → First before a i)
+            → First before a (cond b 2 i)
+        later m i true t f p q = p (t tt)
+        later m i false t f p q = q (f tt)
+
+        go : (b : Bool) → (T b → T (before (a .y) (a .x))) → (T (not b) → T (not (before (a .y) (a .x)))) → First before a (cond (before (a .z) (cond b (a .y) (a .x))) 2 (cond b 1 0))
+        go true t f =
+            later (a .y) 1 (before (a .z) (a .y)) (λ h. h) (λ h. h)
+            (λ h. at-2 (split (a .z) (a .y) (a .x) x h (once (a .y) (a .x) (t tt))) h)
+            (at-1 (t tt))
+        go false t f =
+            later (a .x) 0 (before (a .z) (a .x)) (λ h. h) (λ h. h)
+            (λ h. at-2 h (split (a .z) (a .x) (a .y) y h (f tt)))
+            (at-0 (f tt))
+
+gt-split : (z x y : Float) → T (not (isNan y)) → T (gt z x) → T (not (gt y x)) → T (gt z y)
+gt-split z x y n h k = go (lt y z) (λ (f : T (not (lt y z))). clash (lt x y) (lt-split x z y n h f) k)
+  where
+    clash : (b : Bool) → T b → T (not b) → ⊥
+    clash true t f = f
+
+    go : (b : Bool) → (T (not b) → ⊥) → T b
+    go true f = tt
+    go false f = absurd (f tt)
+
+numbers : (a : Vec3) → Comparisons.isNan a ≡ false → T (not (isNan (a .x))) × T (not (isNan (a .y)))
+unfolding Comparisons.isNan
+numbers a = go (isNan (a .x)) (isNan (a .y)) (isNan (a .z))
+  where
+    go : (p q r : Bool) → p || q || r ≡ false → T (not p) × T (not q)
+    go false false r e = (tt, tt)
+    go false true r e = absurd (true≢false e)
+    go true q r e = absurd (true≢false e)
+
+pub first-least : (a : Vec3) → Comparisons.isNan a ≡ false → First lt a (minPosition a)
+unfolding minPosition
+first-least a n = is-first lt lt-once lt-split a (numbers a n .0) (numbers a n .1)
+
+pub first-greatest : (a : Vec3) → Comparisons.isNan a ≡ false → First gt a (maxPosition a)
+unfolding maxPosition
+first-greatest a n = is-first gt (λ (x y : Float). lt-once y x) gt-split a (numbers a n .0) (numbers a n .1)

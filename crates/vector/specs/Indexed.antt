@@ -1,0 +1,32 @@
+-- An element by its index (document 01, "Refused, and by whose doing": "10, a component or `test` index above 2"; "Returned: the number, .. zeros").
+use Prim.Native.Nat.{ℕ}
+use mathlib.Core.Bool.{Bool, cond}
+use lib.Dec.{eqb}
+use lib.Ieee.{Float}
+use Rattle.vector.specs.declared.vec3.Vec3.{Vec3}
+use Rattle.vector.specs.declared.vec3.index.Component.{Component}
+use Rattle.vector.specs.Vectors.{zer}
+
+-- What an answer shows: a refusal's number, 0 for none, and a value, the zero where it is refused.
+pub record Answer (A : Type 0) : Type 0 where
+  pub refusal : ℕ
+  pub value : A
+
+abbrev pub done : {A : Type 0} → A → Answer A
+done v = record { refusal = 0; value = v }
+
+abbrev pub outOfRange : {A : Type 0} → A → Answer A
+outOfRange zero = record { refusal = 10; value = zero }
+
+-- match index { 0 => self.x, 1 => self.y, 2 => self.z, _ => panic!("index out of bounds") }
+unfoldable pub indexed : {A : Type 0} → A → A → A → A → ℕ → Answer A
+indexed zero x y z i =
+    cond (eqb i 0) (done x) (cond (eqb i 1) (done y) (cond (eqb i 2) (done z) (outOfRange zero)))
+
+-- the paper's number and value for each case of the answer
+abbrev pub answerOf : Component → Answer Float
+answerOf (Component.At v) = done v
+answerOf Component.OutOfRange = outOfRange zer
+
+unfoldable pub component : Vec3 → ℕ → Answer Float
+component a i = indexed zer (a .x) (a .y) (a .z) i
