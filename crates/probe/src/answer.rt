@@ -35,21 +35,6 @@ pub(crate) fn refused(refusal: u32, count: usize) -> Answer
     }
 }
 
-// The result of a function that gives a float: its bits.
-pub(crate) fn float(x: f32) -> [u32; 6] {
-    let bits = scalar::bits::to_bits(x);
-    [bits, 0, 0, 0, 0, 0]
-}
-
-// The result of a function that gives a bool.
-pub(crate) fn flag(b: bool) -> [u32; 6] {
-    if b {
-        [1, 0, 0, 0, 0, 0]
-    } else {
-        [0, 0, 0, 0, 0, 0]
-    }
-}
-
 // Writes the answer's line from `at` on, and gives the place behind it.
 pub(crate) fn put_answer(out: &mut [u8], at: usize, answer: Answer) -> usize
     requires { ⌜ at + longest ≤ length (now out) ⌝ }

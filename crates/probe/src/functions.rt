@@ -7,6 +7,10 @@ use crate::answer::MALFORMED;
 use crate::answer::NONE;
 use crate::answer::UNKNOWN;
 use crate::answer::refused;
+use crate::elements;
+use crate::lengths;
+use crate::masks;
+use crate::motions;
 use crate::scalars;
 
 // What a function takes and gives: the first `bools` of its arguments are bools, and where `index` is true the last one is an
@@ -27,6 +31,37 @@ fn shape_of(number: u32) -> Shape
         1 | 3..=6 | 8 | 12..=15 => row(1, 0, false, 1),
         2 => row(3, 0, false, 1),
         7 | 9..=11 => row(2, 0, false, 1),
+        30 | 36 => row(3, 3, false, 3),
+        31 => row(1, 1, false, 3),
+        32 => row(4, 3, true, 1),
+        33 => row(3, 3, false, 1),
+        34 | 35 => row(6, 6, false, 3),
+        40 | 56 | 57 | 61 | 63 | 71 | 74 | 81..=83 | 85..=88 | 100 | 101 | 112 => row(
+            3,
+            0,
+            false,
+            3,
+        ),
+        41 => row(1, 0, false, 3),
+        42 => row(9, 3, false, 3),
+        43 | 67 | 68 | 99 => row(6, 0, false, 1),
+        44..=46 | 52..=55 | 58 | 69 | 70 | 73 | 77..=80 | 84 | 91 | 97 | 104..=107 => row(
+            6,
+            0,
+            false,
+            3,
+        ),
+        47 | 96 => row(9, 0, false, 3),
+        48..=51 | 59 | 60 | 62 | 64..=66 | 76 => row(3, 0, false, 1),
+        72 | 75 | 115 => row(3, 0, false, 4),
+        89 | 90 | 98 => row(7, 0, false, 3),
+        92 => row(7, 0, false, 1),
+        93 => row(5, 0, false, 3),
+        94 | 95 | 108..=111 | 113 | 114 => row(4, 0, false, 3),
+        102 => row(3, 0, false, 6),
+        103 => row(4, 0, true, 1),
+        116 => row(4, 0, false, 4),
+        117..=119 => row(0, 0, false, 3),
         _ => Shape {
             known: false,
             arguments: 0,
@@ -55,6 +90,12 @@ fn row(arguments: usize, bools: usize, index: bool, results: usize) -> Shape
 fn results_of(number: u32, values: &[u32; 10]) -> [u32; 6] {
     match number {
         1..=15 => scalars::results_of(number, values),
+        30..=36 => masks::results_of(number, values),
+        43 | 44 | 64..=68 | 71..=80 | 93..=95 => lengths::results_of(number, values),
+        69 | 70 | 81..=92 | 96..=102 => motions::results_of(number, values),
+        104..=113 => motions::operators_of(number, values),
+        103 | 114..=119 => elements::others_of(number, values),
+        40..=63 => elements::results_of(number, values),
         _ => [0; 6],
     }
 }

@@ -1,7 +1,12 @@
 // Answers each call line of standard input: a function's number and its arguments.
 mod answer;
 mod call;
+mod elements;
+mod forms;
 mod functions;
+mod lengths;
+mod masks;
+mod motions;
 mod scalars;
 
 ghost use Prim.Native.Nat.{_+_, _≤_, _<_};

@@ -1,6 +1,6 @@
 // The scalar functions, 1 to 15.
-use crate::answer::flag;
-use crate::answer::float;
+use crate::forms::flag;
+use crate::forms::float;
 use scalar::acos::acos_approx;
 use scalar::bits::from_bits;
 use scalar::euclid::div_euclid;

@@ -4,7 +4,6 @@ pub mod Indexed
 pub mod Operators
 pub mod Elements
 pub mod ElementsMeaning
-pub mod ElementsCorners
 pub mod Comparisons
 pub mod Signs
 pub mod Products
@@ -15,9 +14,8 @@ pub mod LengthClamps
 pub mod Rounding
 pub mod Interpolation
 pub mod Optics
-pub mod OpticsCorners
 pub mod Orthogonal
 pub mod OrthogonalMeaning
-pub mod OrthogonalCorners
 pub mod Homogeneous
 pub mod Asserts
+pub mod Corners

@@ -1,0 +1,30 @@
+// The functions of BVec3, 30 to 36.
+use crate::forms::flag;
+use crate::forms::mask;
+use crate::forms::mask_at;
+use crate::forms::whole;
+use vector::bvec3::BVec3;
+use vector::bvec3::Tested;
+
+// The results of a function at the arguments behind its number in `values`.
+pub(crate) fn results_of(number: u32, values: &[u32; 10]) -> [u32; 6] {
+    let a = mask_at(values, 1);
+    let b = mask_at(values, 4);
+    match number {
+        30 => mask(BVec3::new(a.x, a.y, a.z)),
+        31 => mask(BVec3::splat(a.x)),
+        32 => tested(a.test(values[4])),
+        33 => whole(a.bitmask()),
+        34 => mask(a.and(b)),
+        35 => mask(a.or(b)),
+        36 => mask(a.not()),
+        _ => [0; 6],
+    }
+}
+
+fn tested(t: Tested) -> [u32; 6] {
+    let Tested::Bit(b) = t else {
+        return [0; 6];
+    };
+    flag(b)
+}

@@ -1,0 +1,56 @@
+-- The marked corners of document 01 that concern vectors, computed from the definitions. f is the float of a bit pattern.
+use mathlib.Core.Path.{_≡_, refl}
+use mathlib.Core.Bool.{true}
+use Prim.Native.Nat.{ℕ}
+use lib.Ieee as Ieee
+use lib.Ieee.{Float, nan, binary32, ofBits, round, sum, add, mul, div, neg, lt, eq, le}
+use Rattle.laws.specs.Exact.{negative, sizeIn}
+use Rattle.scalar.specs.Root.{root, rootUnits, wholeRoot}
+use Rattle.scalar.specs.Sign.{abs, copysign, signum}
+use Rattle.vector.specs.declared.vec3.Vec3.{Vec3}
+use Rattle.vector.specs.Vectors.{vec, zer, one, X, ONE}
+use Rattle.vector.specs.Operators.{sub, numberMul}
+use Rattle.vector.specs.Elements.{lesser, min, position, minPosition}
+use Rattle.vector.specs.Products.{dot}
+use Rattle.vector.specs.Optics.{two, refractK, refract}
+use Rattle.vector.specs.Orthogonal.{anyOrthogonalVector, anyOrthonormalPair}
+
+abbrev f : ℕ → Float
+f b = ofBits binary32 b
+
+-- all NaNs, and (0, 1, 0)
+abbrev NAN : Vec3
+NAN = vec nan nan nan
+
+abbrev Y : Vec3
+Y = vec zer one zer
+
+pub record Corners : Type 0 where
+  -- "`min`(NaN, 1) is 1; `min`(1, NaN) is NaN."
+  min-of-nan : min NAN ONE ≡ ONE
+  min-with-nan : min ONE NAN ≡ NAN
+  -- "`min_position`: (2, 1, 1) gives 1; (NaN, 1, 0) gives 0."
+  first-least : minPosition (vec two one one) ≡ 1
+  nan-first : minPosition (vec nan one zer) ≡ 0
+  -- "`any_orthogonal_vector`(1, 1, 2) is (0, 2, -1)."
+  orthogonal : anyOrthogonalVector (vec one one two) ≡ vec zer two (f 0xbf800000)
+  -- "24 on (0, 0, 1): (1, -0, -0) and (-0, 1, -0)", which the pair is before its directions are taken.
+  pair :
+      anyOrthonormalPair (vec zer zer one) ≡ record { first = vec one (f 0x80000000) (f 0x80000000); second = vec (f 0x80000000) one (f 0x80000000) }
+  -- "23 with (1, 0, 0) and (0, 1, 0): u = 1 gives (1, 0, 0)", which `refract` gives before its direction is taken;
+  along : refract X Y one ≡ X
+  -- "u = 2 refusal 8": k is below zero.
+  reflected : lt (refractK X Y two) zer ≡ true
+
+pub corners : Corners
+unfolding min lesser minPosition position anyOrthogonalVector anyOrthonormalPair negative abs copysign signum refract refractK dot sub numberMul root rootUnits wholeRoot sizeIn round neg div Ieee.sub le lt eq add sum mul ofBits
+corners = record {
+  min-of-nan = refl;
+  min-with-nan = refl;
+  first-least = refl;
+  nan-first = refl;
+  orthogonal = refl;
+  pair = refl;
+  along = refl;
+  reflected = refl;
+}
