@@ -1,0 +1,146 @@
+//! The command that compare/run calls: compares a program with the Rust, writes samples, or answers lines by the Rust.
+
+use compare::calls::{called_by, Function, FUNCTIONS};
+use compare::check::{compare, Difference};
+use compare::generate::Generator;
+use compare::{decimal, oracle};
+use std::env;
+use std::error::Error;
+use std::fs;
+use std::io::{self, BufRead, Write};
+use std::process::ExitCode;
+use std::time::Instant;
+
+const USAGE: &str = "usage:
+  compare/run SEED COUNT                         compare COUNT calls of probe with the Rust
+  compare/run --sample SEED COUNT CALLS ANSWERS  write calls to one file, the Rust's answers to another
+  compare/run --answer                           answer the call lines of standard input by the Rust
+options:
+  --only NUMBERS                                 these functions alone, as in 1-15,43
+  --program PROGRAM                              another program than probe";
+
+/// Runs `probe`.
+const PROBE: &str = concat!(env!("CARGO_MANIFEST_DIR"), "/probe");
+
+/// How much of a line is printed.
+const WIDTH: usize = 200;
+
+type Outcome = Result<ExitCode, Box<dyn Error>>;
+
+fn main() -> ExitCode {
+    run(env::args().skip(1).collect()).unwrap_or_else(|error| {
+        eprintln!("compare: {error}");
+        ExitCode::from(2)
+    })
+}
+
+fn run(mut words: Vec<String>) -> Outcome {
+    let program = option(&mut words, "--program").unwrap_or_else(|| PROBE.to_string());
+    let functions = match option(&mut words, "--only") {
+        Some(list) => functions_of(&list)?,
+        None => FUNCTIONS.iter().collect(),
+    };
+    let words: Vec<&str> = words.iter().map(String::as_str).collect();
+    match words[..] {
+        ["--answer"] => answer(),
+        ["--sample", seed, count, calls, answers] => {
+            sample(Generator::new(seed.parse()?, functions), count.parse()?, calls, answers)
+        }
+        [seed, count] => compare_and_tell(&program, Generator::new(seed.parse()?, functions), count.parse()?),
+        _ => Err(USAGE.into()),
+    }
+}
+
+/// Takes an option and its word out of the words.
+fn option(words: &mut Vec<String>, name: &str) -> Option<String> {
+    let place = words.iter().position(|word| word == name)?;
+    if place + 1 == words.len() {
+        return None;
+    }
+    words.remove(place);
+    Some(words.remove(place))
+}
+
+/// The functions of a list of numbers and ranges.
+fn functions_of(list: &str) -> Result<Vec<&'static Function>, Box<dyn Error>> {
+    let mut chosen = Vec::new();
+    for part in list.split(',') {
+        let (low, high) = part.split_once('-').unwrap_or((part, part));
+        let (low, high): (u32, u32) = (low.parse()?, high.parse()?);
+        chosen.extend(FUNCTIONS.iter().filter(|function| (low..=high).contains(&function.number)));
+    }
+    if chosen.is_empty() {
+        return Err(format!("no function has a number of {list}").into());
+    }
+    Ok(chosen)
+}
+
+/// Answers the lines of standard input.
+fn answer() -> Outcome {
+    let mut calls = io::stdin().lock();
+    let mut answers = io::BufWriter::new(io::stdout().lock());
+    let (mut line, mut answered) = (Vec::new(), Vec::new());
+    while calls.read_until(b'\n', &mut line)? > 0 {
+        oracle::answer_all(&line, &mut answered);
+        answers.write_all(&answered)?;
+        line.clear();
+        answered.clear();
+    }
+    answers.flush()?;
+    Ok(ExitCode::SUCCESS)
+}
+
+/// Writes calls to one file and their answers to another.
+fn sample(mut generator: Generator, count: u64, calls: &str, answers: &str) -> Outcome {
+    let mut lines = Vec::new();
+    for _ in 0..count {
+        generator.line(&mut lines);
+    }
+    let mut answered = Vec::new();
+    oracle::answer_all(&lines, &mut answered);
+    fs::write(calls, lines)?;
+    fs::write(answers, answered)?;
+    Ok(ExitCode::SUCCESS)
+}
+
+/// Compares, and prints the first differences, the time and the counts.
+fn compare_and_tell(program: &str, generator: Generator, count: u64) -> Outcome {
+    let began = Instant::now();
+    let comparison = compare(program, generator, count).map_err(|error| format!("{program}: {error}"))?;
+    let seconds = began.elapsed().as_secs_f64();
+    for difference in &comparison.first {
+        tell(difference);
+    }
+    if comparison.spare > 0 {
+        println!("{} bytes behind the answers to all calls", comparison.spare);
+    }
+    if !comparison.ended.success() {
+        println!("{program} ended with {}", comparison.ended);
+    }
+    println!("{seconds:.1} s, {:.1} million calls a second", comparison.compared as f64 / seconds / 1e6);
+    println!("{} calls compared, {} different", comparison.compared, comparison.different);
+    let equal = comparison.different == 0 && comparison.spare == 0 && comparison.ended.success();
+    Ok(if equal { ExitCode::SUCCESS } else { ExitCode::FAILURE })
+}
+
+/// Prints a difference.
+fn tell(difference: &Difference) {
+    let name = called_by(&difference.call).map_or("no function", |function| function.name);
+    println!("call      {}   ({name})", in_hex(&difference.call));
+    println!("the Rust  {}", in_hex(&difference.rust));
+    println!("program   {}", in_hex(&difference.program));
+}
+
+/// A line with all numbers but the first in hexadecimal; if it has another form, the line itself.
+fn in_hex(line: &[u8]) -> String {
+    let bytes = line.strip_suffix(b"\n").unwrap_or(line);
+    let numbers: Option<Vec<u32>> = bytes.split(|&byte| byte == b' ').map(decimal::read).collect();
+    let mut text = match numbers.as_deref() {
+        Some([first, rest @ ..]) if line.len() > bytes.len() => {
+            rest.iter().fold(first.to_string(), |text, n| format!("{text} {n:08x}"))
+        }
+        _ => format!("\"{}\"", line.escape_ascii()),
+    };
+    text.truncate(WIDTH);
+    text
+}
