@@ -21,6 +21,7 @@ use Rattle.laws.proofs.Certificates.{cert, by, done, square}
 use Rattle.laws.proofs.RingInt as Z
 use Rattle.laws.proofs.RoundingError.{round-relative, finite-round}
 use Rattle.laws.proofs.SizeLaws.{size-of-value, value-of-size, size-unique}
+use Rattle.laws.proofs.OperationLaws.{mul-at}
 use Rattle.laws.proofs.OverflowLaws.{size-under}
 use Rattle.laws.proofs.RoundNearest.{round-nearest}
 
@@ -60,22 +61,6 @@ difference-of-squares a b =
     Z.ringℤ (a ∷ b ∷ []) (Z._⊗_ (Z._⊕_ (Z.var 0) (Z.var 1)) (Z._⊕_ (Z.var 0) (Z.⊖_ (Z.var 1)))) (Z._⊕_ (Z._⊗_ (Z.var 0) (Z.var 0)) (Z.⊖_ (Z._⊗_ (Z.var 1) (Z.var 1)))) refl
 
 -- ---- the error of one rounding: a product of two binary32 values, in the normal range, is off by at most itself / 2 ^ 24
--- a product of values is the rounded product of their sizes
-product-is : (f : Format) (x y : Float) (s t : Bool) (X Y l : ℕ) → 0 < l → HasValue x s X l → HasValue y t Y l → mul f x y ≡ round f (unlike s t) (X * Y) (l * l)
-unfolding mul
-product-is f nan y s t X Y l L p q = absurd p
-product-is f (inf b) y s t X Y l L p q = absurd p
-product-is f (fin b m e) nan s t X Y l L p q = absurd q
-product-is f (fin b m e) (inf d) s t X Y l L p q = absurd q
-product-is f (fin b m e) (fin d n g) s t X Y l L p q =
-    ap (λ (z : Bool). round f (unlike z d) (m * up e * (n * up g)) (down e * down g)) (p .0)
-    ∙ ap (λ (z : Bool). round f (unlike s z) (m * up e * (n * up g)) (down e * down g)) (q .0)
-    ∙ round-same f (unlike s t) (m * up e * (n * up g)) (down e * down g) (X * Y) (l * l) (mul-pos (down-pos e) (down-pos g)) (mul-pos L L)
-    (pairs (m * up e) (n * up g) l l ∙ ap (λ (z : ℕ). z * (n * up g * l)) (p .1) ∙ ap (λ (z : ℕ). X * down e * z) (q .1) ∙ sym (pairs X Y (down e) (down g)))
-  where
-    pairs : (a b c d : ℕ) → a * b * (c * d) ≡ a * c * (b * d)
-    pairs a b c d = ring (a ∷ b ∷ c ∷ d ∷ []) (var 0 ⊗ var 1 ⊗ (var 2 ⊗ var 3)) (var 0 ⊗ var 2 ⊗ (var 1 ⊗ var 3)) refl
-
 product-error : (x y : Float) → T (fits binary32 x) → T (fits binary32 y) → T (finite x) → T (finite y) → T (finite (mul binary32 x y))
     → 2 ^ 23 * 2 ^ 149 ≤ sizeIn binary32 x * sizeIn binary32 y
     → Within (sizeIn binary32 (mul binary32 x y) * 2 ^ 149 * 2 ^ 24) (sizeIn binary32 x * sizeIn binary32 y * 2 ^ 24) (sizeIn binary32 x * sizeIn binary32 y)
@@ -85,7 +70,7 @@ product-error x y h k t u v normal =
     let l = 2 ^ 149 in
     let s = unlike (negative x) (negative y) in
     let G = grid binary32 (X * Y) (l * l) in
-    let is = product-is binary32 x y (negative x) (negative y) X Y l (pow-pos 149) (value-of-size binary32 x h t) (value-of-size binary32 y k u) in
+    let is = mul-at binary32 x y (negative x) (negative y) X Y (value-of-size binary32 x h t) (value-of-size binary32 y k u) in
     let value = finite-round binary32 s (X * Y) (l * l) (subst (λ (z : Float). T (finite z)) is v) in
     let size = ap (sizeIn binary32) is ∙ size-of-value binary32 (round binary32 s (X * Y) (l * l)) s G value .0 in
     let near = round-relative binary32 (X * Y) (l * l) (lit< tt) (normal-of-fraction binary32 (X * Y) (l * l) (lit< tt) (mul-le-mul-right l normal)) in

@@ -5,6 +5,7 @@ pub mod RingInt
 pub mod SignedLaws
 pub mod SumLaws
 pub mod SumSame
+pub mod OperationLaws
 pub mod CompareLaws
 pub mod ClosestLaws
 pub mod CarryLaws

@@ -13,7 +13,8 @@ use Rattle.scalar.specs.Sign.{abs}
 use Rattle.vector.specs.declared.vec3.Vec3.{Vec3}
 use Rattle.vector.specs.Vectors.{vec, zer}
 use Rattle.vector.specs.Orthogonal.{anyOrthogonalVector}
-use Rattle.vector.specs.OrthogonalMeaning.{FiniteVec, ExactlyOrthogonal}
+use Rattle.vector.specs.OrthogonalMeaning.{ExactlyOrthogonal}
+use Rattle.vector.specs.ExactVectors.{FiniteVec}
 
 abbrev E : Float → ℤ
 E x = exact binary32 x

@@ -15,7 +15,9 @@ pub mod Rounding
 pub mod Interpolation
 pub mod Optics
 pub mod Orthogonal
+pub mod ExactVectors
 pub mod OrthogonalMeaning
 pub mod Homogeneous
 pub mod Asserts
+pub mod NumericLaws
 pub mod Corners
