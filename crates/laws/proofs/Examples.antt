@@ -29,6 +29,10 @@ use Rattle.laws.proofs.RoundNearest.{round-nearest}
 square-of-sum : (a b : ℕ) → (a + b) * (a + b) ≡ a * a + 2 * a * b + b * b
 square-of-sum a b = ring (a ∷ b ∷ []) ((var 0 ⊕ var 1) ⊗ (var 0 ⊕ var 1)) (var 0 ⊗ var 0 ⊕ lit 2 ⊗ var 0 ⊗ var 1 ⊕ var 1 ⊗ var 1) refl
 
+-- a power of two is a literal
+halves : (a b : ℕ) → (a * 2 + b) * 2 ^ 24 ≡ a * 2 ^ 25 + 2 ^ 24 * b
+halves a b = ring (a ∷ b ∷ []) ((var 0 ⊗ lit 2 ⊕ var 1) ⊗ lit (2 ^ 24)) (var 0 ⊗ lit (2 ^ 25) ⊕ lit (2 ^ 24) ⊗ var 1) refl
+
 -- ---- inequalities over ℕ
 abbrev A : Expr
 A = var 0
@@ -59,6 +63,20 @@ twice-product a b = cert (a ∷ b ∷ []) (lit 2 ⊗ A ⊗ B) (A ⊗ A ⊕ B ⊗
 difference-of-squares : (a b : ℤ) → (a +ℤ b) *ℤ (a -ℤ b) ≡ a *ℤ a -ℤ b *ℤ b
 difference-of-squares a b =
     Z.ringℤ (a ∷ b ∷ []) (Z._⊗_ (Z._⊕_ (Z.var 0) (Z.var 1)) (Z._⊕_ (Z.var 0) (Z.⊖_ (Z.var 1)))) (Z._⊕_ (Z._⊗_ (Z.var 0) (Z.var 0)) (Z.⊖_ (Z._⊗_ (Z.var 1) (Z.var 1)))) refl
+
+-- Lagrange's identity, for vectors of two components
+lagrange : (a b c d : ℤ) → (a *ℤ a +ℤ b *ℤ b) *ℤ (c *ℤ c +ℤ d *ℤ d) ≡ (a *ℤ c +ℤ b *ℤ d) *ℤ (a *ℤ c +ℤ b *ℤ d) +ℤ (a *ℤ d -ℤ b *ℤ c) *ℤ (a *ℤ d -ℤ b *ℤ c)
+lagrange a b c d =
+    Z.ringℤ (a ∷ b ∷ c ∷ d ∷ [])
+    (Z._⊗_ (Z._⊕_ (Z._⊗_ (Z.var 0) (Z.var 0)) (Z._⊗_ (Z.var 1) (Z.var 1))) (Z._⊕_ (Z._⊗_ (Z.var 2) (Z.var 2)) (Z._⊗_ (Z.var 3) (Z.var 3))))
+    (Z._⊕_ (Z._⊗_ dot dot) (Z._⊗_ cross cross))
+    refl
+  where
+    dot : Z.Expr
+    dot = Z._⊕_ (Z._⊗_ (Z.var 0) (Z.var 2)) (Z._⊗_ (Z.var 1) (Z.var 3))
+
+    cross : Z.Expr
+    cross = Z._⊕_ (Z._⊗_ (Z.var 0) (Z.var 3)) (Z.⊖_ (Z._⊗_ (Z.var 1) (Z.var 2)))
 
 -- ---- the error of one rounding: a product of two binary32 values, in the normal range, is off by at most itself / 2 ^ 24
 product-error : (x y : Float) → T (fits binary32 x) → T (fits binary32 y) → T (finite x) → T (finite y) → T (finite (mul binary32 x y))
