@@ -4,7 +4,7 @@ use mathlib.Core.Path.{_≡_, sym, ap, _∙_, subst₂}
 use mathlib.Core.Bool.{Bool, true, false, not, _&&_}
 use mathlib.Core.List.{List, [], _∷_}
 use Prim.Native.Nat.{ℕ, _+_, _-_, _*_, _≤_, _<_}
-use native.Mathlib.Nat.{add-zero, mul-zero, le-refl, le-of-lt, le-trans, le-of-eq, le-add-right, add-le-add, mul-le-mul-left, le-of-mul-le-mul-left}
+use native.Mathlib.Nat.{add-zero, mul-zero, le-refl, le-of-lt, le-trans, le-of-eq, le-add-right, add-le-add, mul-le-mul-left, le-of-mul-le-mul-right}
 use native.Mathlib.Omega.{arith}
 use lib.Ieee.Fits.{and-l, and-r}
 use lib.Dec.{leb, leb→le, nleb→lt, eqb→eq, T}
@@ -78,6 +78,10 @@ cert ρ a b hs t = cancel (val ρ a) (val ρ b) (val ρ (lefts hs)) (val ρ (rig
 
 pub cert< : (ρ : List ℕ) (a b : Expr) (hs : Hyps ρ) → T (leP (nf (a ⊕ lit 1 ⊕ rights hs)) (nf (b ⊕ lefts hs))) → val ρ a < val ρ b
 cert< ρ a b hs t = cancel< (val ρ a) (val ρ b) (val ρ (lefts hs)) (val ρ (rights hs)) (sum-le ρ hs) (ring≤ ρ (a ⊕ lit 1 ⊕ rights hs) (b ⊕ lefts hs) t)
+
+-- the same for a goal times K
+pub cert-times : (K : ℕ) (ρ : List ℕ) (a b : Expr) (hs : Hyps ρ) → 0 < K → T (leP (nf (a ⊗ lit K ⊕ rights hs)) (nf (b ⊗ lit K ⊕ lefts hs))) → val ρ a ≤ val ρ b
+cert-times K ρ a b hs k t = le-of-mul-le-mul-right (cert ρ (a ⊗ lit K) (b ⊗ lit K) hs t) k
 
 -- ---- products of hypotheses: (d - c) * (f - e) is not negative
 slack : (c d : ℕ) → c ≤ d → c + (d - c) ≡ d

@@ -11,6 +11,9 @@ pub mod ClosestLaws
 pub mod CarryLaws
 pub mod Sticky
 pub mod RoundingError
+pub mod ErrorLaws
+pub mod FiniteLaws
+pub mod DifferenceLaws
 pub mod ValueLaws
 pub mod SizeLaws
 pub mod KeptLaws

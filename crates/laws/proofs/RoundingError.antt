@@ -29,7 +29,7 @@ grid-near f a c C =
 scaled : (a b c m : ℕ) → Within a b c → Within (a * m) (b * m) (c * m)
 scaled a b c m h = (le-trans (mul-le-mul-right m (h .0)) (le-of-eq (add-mul b c m)), le-trans (mul-le-mul-right m (h .1)) (le-of-eq (add-mul a c m)))
 
-looser : (a b c d : ℕ) → c ≤ d → Within a b c → Within a b d
+pub looser : (a b c d : ℕ) → c ≤ d → Within a b c → Within a b d
 looser a b c d h k = omega arith
 
 halved : (a b c : ℕ) → Within (a * 2) (b * 2) (c * 2) → Within a b c
@@ -77,6 +77,10 @@ round-absolute f a c C N =
     none : (z p : ℕ) → z ≤ p → z - p ≡ 0
     none z p h = omega arith
 
+pub prec-twice : (f : Format) → 2 ^ prec f ≡ 2 * 2 ^ (prec f - 1)
+prec-twice binary32 = refl
+prec-twice binary64 = refl
+
 -- in any case: |r - x| * 2 ^ prec ≤ x + 2 ^ (prec - 1) smallest values
 pub round-error : (f : Format) (a c : ℕ) → 0 < c
     → Within (grid f a c * c * 2 ^ prec f) (a * 2 ^ low f * 2 ^ prec f) (a * 2 ^ low f + c * 2 ^ (prec f - 1))
@@ -85,12 +89,8 @@ round-error f a c C = go (leb (prec f) (size (n / c))) (leb→le (prec f) (size 
     n : ℕ
     n = a * 2 ^ low f
 
-    double : (f : Format) → 2 ^ prec f ≡ 2 * 2 ^ (prec f - 1)
-    double binary32 = refl
-    double binary64 = refl
-
     up : (x : ℕ) → x * 2 * 2 ^ (prec f - 1) ≡ x * 2 ^ prec f
-    up x = mul-assoc x 2 (2 ^ (prec f - 1)) ∙ ap (λ (y : ℕ). x * y) (sym (double f))
+    up x = mul-assoc x 2 (2 ^ (prec f - 1)) ∙ ap (λ (y : ℕ). x * y) (sym (prec-twice f))
 
     go : (b : Bool) → (T b → prec f ≤ size (n / c)) → (T (not b) → size (n / c) < prec f)
         → Within (grid f a c * c * 2 ^ prec f) (a * 2 ^ low f * 2 ^ prec f) (a * 2 ^ low f + c * 2 ^ (prec f - 1))

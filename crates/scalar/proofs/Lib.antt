@@ -10,6 +10,7 @@ pub mod RootLaws
 pub mod RootPartsLaws
 pub mod RootCases
 pub mod RootMeaningLaws
+pub mod RootErrorLaws
 pub mod IntegralLaws
 pub mod IntegralRules
 pub mod IntegralMeaningLaws

@@ -73,15 +73,15 @@ module _ (m p u : ℕ) (near : NearRoot m (p + 1)) (lo : 2 ^ 46 ≤ m) (U : 0 < 
       enough = omega (arith, sum, j .1, mul-le-mul-right u (next (lt-of-mul-lt-mul-right u (lt-of-lt-of-le l (le-of-eq (j .1))))))
 
 -- ---- the root of a float, as such a number
-record Rooted (x : Float) : Type 0 where
-  m : ℕ
-  p : ℕ
-  h : ℕ
-  near : NearRoot m (p + 1)
-  least : 2 ^ 46 ≤ m
-  square : radicand x ≡ m * (2 ^ h * 2 ^ h)
-  fit : T (fits binary32 (root x))
-  value : HasValue (root x) false ((p + 1) * 2 ^ h) (2 ^ 149)
+pub record Rooted (x : Float) : Type 0 where
+  pub m : ℕ
+  pub p : ℕ
+  pub h : ℕ
+  pub near : NearRoot m (p + 1)
+  pub least : 2 ^ 46 ≤ m
+  pub square : radicand x ≡ m * (2 ^ h * 2 ^ h)
+  pub fit : T (fits binary32 (root x))
+  pub value : HasValue (root x) false ((p + 1) * 2 ^ h) (2 ^ 149)
 
 rooted : (x : Float) (q k : ℕ) → 0 < q → q < 2 ^ 24 → q * 2 ^ k < 2 ^ 277 → HasValue x false (q * 2 ^ k) (2 ^ 149) → Rooted x
 rooted x q k some few under v = record {
@@ -119,7 +119,7 @@ rooted x q k some few under v = record {
     small : (p + 1) * 2 ^ half k a < 2 ^ 277
     small = lt-of-le-of-lt (mul-le-mul-right (2 ^ half k a) (near .1 .most)) (lt-of-le-of-lt (le-of-eq (sym (pow-add 2 24 (half k a)))) (pow-lt (less k a short (shift .least))))
 
-rooted-at : (x : Float) → T (fits binary32 x) → T (finite x) → negative x ≡ false → 0 < sizeIn binary32 x → Rooted x
+pub rooted-at : (x : Float) → T (fits binary32 x) → T (finite x) → negative x ≡ false → 0 < sizeIn binary32 x → Rooted x
 rooted-at x F N P S =
     rooted x (d .kept) (d .zeros) (first-pos (d .kept) (2 ^ d .zeros) (subst (λ (n : ℕ). 0 < n) is S)) (d .few)
     (d .below) (subst (λ (s : Bool). HasValue x s (d .kept * 2 ^ d .zeros) (2 ^ 149)) P (d .value))

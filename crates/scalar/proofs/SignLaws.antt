@@ -39,6 +39,12 @@ abs-pos nan h = refl
 abs-pos (inf s) h = ap inf h
 abs-pos (fin s m e) h = ap (λ (b : Bool). fin b m e) h
 
+pub abs-value : (x : Float) (s : Bool) (a c : ℕ) → HasValue x s a c → HasValue (abs x) false a c
+unfolding abs
+abs-value nan s a c h = h
+abs-value (inf t) s a c h = h
+abs-value (fin t m e) s a c h = (refl, h .1)
+
 pub copy : (x y : Float) (b : Bool) → negative y ≡ b → copysign x y ≡ cond b (neg (abs x)) (abs x)
 unfolding copysign
 copy x y b h = ap (λ (c : Bool). cond c (neg (abs x)) (abs x)) h

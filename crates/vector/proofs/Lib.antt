@@ -5,7 +5,14 @@ pub mod ClampLaws
 pub mod PositionLaws
 pub mod SignsLaws
 pub mod SquaredLengthLaws
+pub mod SquaredLengthBounds
+pub mod SquaredLengthErrors
+pub mod UnitBounds
 pub mod RootOrderLaws
 pub mod ReciprocalLaws
+pub mod ReciprocalErrors
 pub mod NormalizingLaws
+pub mod UnitLaws
+pub mod NormalizedLaws
+pub mod DirectionLaws
 pub mod OrthogonalLaws

@@ -9,7 +9,7 @@ use lib.Pow.{pow-pos}
 use lib.Ieee.{Float, nan, inf, fin, binary32, up, down, fits, ofBits, round, div, lt}
 use lib.Ieee.Bits.{is-true, ofBits-fits}
 use lib.Ieee.Exact.{HasValue}
-use lib.Ieee.Fits.{up-pos, down-pos}
+use lib.Ieee.Fits.{up-pos}
 use lib.Ieee.Order.{round-mono}
 use lib.Ieee.Positive.{positive, positive-finite, positive-of-value, value-pos, between}
 use lib.Ieee.Scale.{finite}
@@ -46,7 +46,7 @@ rounded-positive a c p h k =
     (round-mono binary32 1 (2 ^ 64) a c (pow-pos 64) p h)
     (round-mono binary32 a c (2 ^ 75) 1 p (lit< tt) k)
 
-not-zero : (n : ℕ) → 0 < n → eqb n 0 ≡ false
+pub not-zero : (n : ℕ) → 0 < n → eqb n 0 ≡ false
 not-zero n h = go (eqb n 0) (eqb→eq n 0)
   where
     go : (b : Bool) → (T b → n ≡ 0) → b ≡ false
@@ -66,7 +66,7 @@ recip-positive (fin false n d) N v h k =
     (omega (arith, v-most (n * up d) (down d) N (2 ^ 149) (2 ^ 74) (2 ^ 75) (pow-pos 74) (v .1) h refl)))
 
 -- ---- the root of an f32 above zero is such a y
-positive-sign : (x : Float) → T (positive x) → negative x ≡ false
+pub positive-sign : (x : Float) → T (positive x) → negative x ≡ false
 unfolding negative
 positive-sign nan p = refl
 positive-sign (inf s) p = absurd p
@@ -92,25 +92,25 @@ module _ (x : Float) (F : T (fits binary32 x)) (p : T (positive x)) where
   number : T (finite x)
   number = positive-finite x p
 
-  size-pos : 0 < sizeIn binary32 x
+  pub size-pos : 0 < sizeIn binary32 x
   size-pos = value-pos x (sizeIn binary32 x) (2 ^ 149) p (pow-pos 149) (subst (λ (s : Bool). HasValue x s (sizeIn binary32 x) (2 ^ 149)) (positive-sign x p) (value-of-size binary32 x F number))
 
   near : NearestRoot x (root x)
   near = root-means x F number (positive-sign x p) size-pos
 
-  root-least : 2 ^ 74 ≤ sizeIn binary32 (root x)
+  pub root-least : 2 ^ 74 ≤ sizeIn binary32 (root x)
   root-least =
       rw size-of-least at
       (root-at-least x (root x) least near (ofBits-fits binary32 0x1a000000)
       (rw size-of-least (le-trans (lit≤ tt) (mul-le-mul-right (2 ^ 149) size-pos))))
 
-  root-most : sizeIn binary32 (root x) ≤ 2 ^ 213
+  pub root-most : sizeIn binary32 (root x) ≤ 2 ^ 213
   root-most =
       rw size-of-most at
       (root-at-most x (root x) most near (ofBits-fits binary32 0x5f800000)
       (rw size-of-most (le-trans (mul-le-mul-right (2 ^ 149) (le-of-lt (size-below binary32 x F number))) (lit≤ tt))))
 
-  root-value : HasValue (root x) false (sizeIn binary32 (root x)) (2 ^ 149)
+  pub root-value : HasValue (root x) false (sizeIn binary32 (root x)) (2 ^ 149)
   root-value = subst (λ (s : Bool). HasValue (root x) s (sizeIn binary32 (root x)) (2 ^ 149)) (near .sign) (value-of-size binary32 (root x) (near .value) (near .number))
 
   pub recip-root-positive : T (positive (div binary32 one (root x)))

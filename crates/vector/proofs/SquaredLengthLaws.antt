@@ -11,7 +11,7 @@ use Rattle.laws.proofs.RoundNearest.{round-nearest}
 use Rattle.vector.specs.declared.vec3.Vec3.{Vec3}
 use Rattle.vector.specs.Products.{dot, lengthSquared}
 
-like : (s : Bool) → unlike s s ≡ false
+pub like : (s : Bool) → unlike s s ≡ false
 like true = refl
 like false = refl
 

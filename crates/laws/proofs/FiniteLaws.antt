@@ -1,0 +1,41 @@
+-- A finite sum or difference has finite terms, and a finite square a finite root. Assumes nothing.
+use mathlib.Core.Bool.{Bool, true, false}
+use lib.Dec.{T}
+use lib.Ieee.{Float, nan, inf, fin, Format, add, sub, neg, mul}
+use lib.Ieee.Scale.{finite}
+
+module _ (f : Format) where
+  infinite-sum : (a b : Bool) → T (finite (add f (inf a) (inf b))) → ⊥
+  unfolding add
+  infinite-sum true true t = t
+  infinite-sum true false t = t
+  infinite-sum false true t = t
+  infinite-sum false false t = t
+
+  pub first-finite : (x y : Float) → T (finite (add f x y)) → T (finite x)
+  unfolding add
+  first-finite nan y t = t
+  first-finite (inf a) nan t = t
+  first-finite (inf a) (inf b) t = infinite-sum a b t
+  first-finite (inf a) (fin b n d) t = t
+  first-finite (fin a m e) y t = tt
+
+  pub second-finite : (x y : Float) → T (finite (add f x y)) → T (finite y)
+  unfolding add
+  second-finite nan y t = absurd t
+  second-finite (inf a) nan t = t
+  second-finite (inf a) (inf b) t = infinite-sum a b t
+  second-finite (inf a) (fin b n d) t = tt
+  second-finite (fin a m e) nan t = t
+  second-finite (fin a m e) (inf b) t = t
+  second-finite (fin a m e) (fin b n d) t = tt
+
+  pub minuend-finite : (x y : Float) → T (finite (sub f x y)) → T (finite x)
+  unfolding sub
+  minuend-finite x y t = first-finite x (neg y) t
+
+  pub root-finite : (x : Float) → T (finite (mul f x x)) → T (finite x)
+  unfolding mul
+  root-finite nan t = t
+  root-finite (inf a) t = t
+  root-finite (fin a m e) t = tt
