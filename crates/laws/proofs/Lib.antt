@@ -25,3 +25,7 @@ pub mod Examples
 pub mod JamLaws
 pub mod LeadingLaws
 pub mod SumSigns
+pub mod GridErrorLaws
+pub mod ExactProducts
+pub mod RoundedOperations
+pub mod ValueOrderLaws

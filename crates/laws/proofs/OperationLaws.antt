@@ -16,19 +16,23 @@ use Rattle.laws.proofs.RingNat.{ring}
 use Rattle.laws.proofs.SumSame.{sum-same}
 
 module _ (f : Format) where
-  pub mul-at : (x y : Float) (s t : Bool) (X Y : ℕ) → HasValue x s X (2 ^ low f) → HasValue y t Y (2 ^ low f) → mul f x y ≡ round f (unlike s t) (X * Y) (2 ^ low f * 2 ^ low f)
+  -- x is ±X / c and y is ±Y / d
+  pub mul-over : (x y : Float) (s t : Bool) (X Y c d : ℕ) → 0 < c → 0 < d → HasValue x s X c → HasValue y t Y d → mul f x y ≡ round f (unlike s t) (X * Y) (c * d)
   unfolding mul
-  mul-at nan y s t X Y p q = absurd p
-  mul-at (inf b) y s t X Y p q = absurd p
-  mul-at (fin b m e) nan s t X Y p q = absurd q
-  mul-at (fin b m e) (inf d) s t X Y p q = absurd q
-  mul-at (fin b m e) (fin d n g) s t X Y p q =
+  mul-over nan y s t X Y c d C D p q = absurd p
+  mul-over (inf b) y s t X Y c d C D p q = absurd p
+  mul-over (fin b m e) nan s t X Y c d C D p q = absurd q
+  mul-over (fin b m e) (inf r) s t X Y c d C D p q = absurd q
+  mul-over (fin b m e) (fin r n g) s t X Y c d C D p q =
       ap₂ (λ (v w : Bool). round f (unlike v w) (m * up e * (n * up g)) (down e * down g)) (p .0) (q .0)
-      ∙ round-same f (unlike s t) (m * up e * (n * up g)) (down e * down g) (X * Y) (2 ^ low f * 2 ^ low f) (mul-pos (down-pos e) (down-pos g)) (mul-pos (pow-pos (low f)) (pow-pos (low f)))
-      (pairs (m * up e) (n * up g) (2 ^ low f) (2 ^ low f) ∙ ap₂ _*_ (p .1) (q .1) ∙ sym (pairs X Y (down e) (down g)))
+      ∙ round-same f (unlike s t) (m * up e * (n * up g)) (down e * down g) (X * Y) (c * d) (mul-pos (down-pos e) (down-pos g)) (mul-pos C D)
+      (pairs (m * up e) (n * up g) c d ∙ ap₂ _*_ (p .1) (q .1) ∙ sym (pairs X Y (down e) (down g)))
     where
       pairs : (a b c d : ℕ) → a * b * (c * d) ≡ a * c * (b * d)
       pairs a b c d = ring (a ∷ b ∷ c ∷ d ∷ []) (var 0 ⊗ var 1 ⊗ (var 2 ⊗ var 3)) (var 0 ⊗ var 2 ⊗ (var 1 ⊗ var 3)) refl
+
+  pub mul-at : (x y : Float) (s t : Bool) (X Y : ℕ) → HasValue x s X (2 ^ low f) → HasValue y t Y (2 ^ low f) → mul f x y ≡ round f (unlike s t) (X * Y) (2 ^ low f * 2 ^ low f)
+  mul-at x y s t X Y p q = mul-over x y s t X Y (2 ^ low f) (2 ^ low f) (pow-pos (low f)) (pow-pos (low f)) p q
 
   pub div-at : (x y : Float) (s t : Bool) (X Y : ℕ) → HasValue x s X (2 ^ low f) → HasValue y t Y (2 ^ low f) → 0 < Y → div f x y ≡ round f (unlike s t) X Y
   unfolding div

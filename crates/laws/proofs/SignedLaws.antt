@@ -31,7 +31,7 @@ signed-sub s a b h = ap (λ (n : ℕ). signed s n +ℤ signed (not s) b) (sym (b
     cancel false c = ap (λ (x : ℤ). x +ℤ negℤ (pos b)) (sym (pos-+ℤ-pos c b)) ∙ ringℤ (pos c ∷ pos b ∷ []) (var 0 ⊕ var 1 ⊕ ⊖ var 1) (var 0) refl
 
 -- ---- sign and size are told by the number
-size-of : (s : Bool) (n : ℕ) → natAbs (signed s n) ≡ n
+pub size-of : (s : Bool) (n : ℕ) → natAbs (signed s n) ≡ n
 size-of true zero = refl
 size-of true (suc n) = refl
 size-of false n = refl

@@ -22,7 +22,8 @@ same-test a b a' b' f g = go (ltb a b) (ltb→lt a b) (nltb→le a b) refl
         back true p q = let x = g (p tt) in let y = k tt in absurd (omega arith)
         back false p q = q tt
 
-order-scale : (a b c a' b' c' : ℕ) → 0 < c → 0 < c' → a * c' ≡ a' * c → b * c' ≡ b' * c → a < b → a' < b'
+-- the order of two fractions is that of the same fractions over another denominator
+pub order-scale : (a b c a' b' c' : ℕ) → 0 < c → 0 < c' → a * c' ≡ a' * c → b * c' ≡ b' * c → a < b → a' < b'
 order-scale a b c a' b' c' C C' p q h = lt-of-mul-lt-mul-right c (lt-of-le-of-lt (le-of-eq (sym p)) (lt-of-lt-of-le (mul-lt-mul-of-pos-right h C') (le-of-eq q)))
 
 minus-scale : (a b c a' b' c' : ℕ) → a * c' ≡ a' * c → b * c' ≡ b' * c → (a - b) * c' ≡ (a' - b') * c

@@ -1,0 +1,137 @@
+-- `reflect` of two vectors of lengths near 1: the mirrored vector's length is near 1. Assumes nothing.
+use mathlib.Core.Path.{_≡_, refl, sym, ap, _∙_, subst}
+use mathlib.Core.Bool.{Bool, true, false, not, cond}
+use Prim.Native.Nat.{ℕ, _+_, _*_, _≤_}
+use native.Mathlib.Nat.{le-trans, le-of-eq, lt-of-le-of-lt, add-mul, zero-mul, mul-comm, mul-le-mul-right}
+use native.Mathlib.Omega.{arith}
+use lib.Dec.{T, lit≤, lit<}
+use lib.Pow.{pow-pos}
+use lib.Ieee as Ieee
+use lib.Ieee.{Float, binary32, unlike, add, mul, fits, ofBits}
+use lib.Ieee.Fits.{add-fits}
+use Rattle.laws.specs.Within.{Within}
+use Rattle.laws.proofs.RoundedOperations.{plus, minus, Sized, Signed, mul-near, sub-near}
+use Rattle.laws.proofs.ExactProducts.{power-times}
+use Rattle.vector.proofs.PairNumbers.{size-le}
+use Rattle.vector.proofs.SignedVectors.{D, E, Num, Exact, Reads, norm, above, under, Norm, sides, plain-sign, parts-of}
+use Rattle.vector.specs.declared.vec3.Vec3.{Vec3}
+use Rattle.vector.specs.Operators.{sub, numberMul}
+use Rattle.vector.specs.Products.{dot}
+use Rattle.vector.specs.Optics.{two, reflect}
+use Rattle.vector.proofs.DotErrorLaws.{Dotted, dot-near}
+use Rattle.vector.proofs.ReflectCertificates.{mirror-length, mirror-product, mirror-part}
+use Rattle.vector.proofs.DifferenceLaws.{Component, toward, against, difference}
+
+-- one component of a - 2 * a.dot(b) * b, with q = 2 * a.dot(b)
+abbrev mirrored : Float → Float → Float → Float
+mirrored q a b = Ieee.sub binary32 a (mul binary32 q b)
+
+dot-fits : (v w : Vec3) → T (fits binary32 (dot v w))
+unfolding dot
+dot-fits v w = add-fits binary32 (add binary32 (mul binary32 (v .x) (w .x)) (mul binary32 (v .y) (w .y))) (mul binary32 (v .z) (w .z))
+
+two-is : Num two false (D * 2)
+unfolding ofBits
+two-is = (refl, refl)
+
+-- ---- in whole numbers
+pub times-d : (x y z x' y' z' e d : ℕ) → Within (x + (y + z)) (x' + (y' + z')) e → Within (x * d + (y * d + z * d)) (x' * d + (y' * d + z' * d)) (e * d)
+times-d x y z x' y' z' e d w = (
+  le-trans (le-of-eq (open3 x y z d)) (le-trans (mul-le-mul-right d (w .0)) (le-of-eq (add-mul (x' + (y' + z')) e d ∙ ap (λ (n : ℕ). n + e * d) (sym (open3 x' y' z' d))))),
+  le-trans (le-of-eq (open3 x' y' z' d)) (le-trans (mul-le-mul-right d (w .1)) (le-of-eq (add-mul (x + (y + z)) e d ∙ ap (λ (n : ℕ). n + e * d) (sym (open3 x y z d))))),
+)
+  where
+    open3 : (x y z d : ℕ) → x * d + (y * d + z * d) ≡ (x + (y + z)) * d
+    open3 x y z d = sym (add-mul x (y + z) d ∙ ap (λ (n : ℕ). x * d + n) (add-mul y z d))
+
+component-of : (sr sa sm : Bool) (r a m v d e : ℕ) → Within (m * d) v (e * 2 * d) → Within (plus sr r + (minus sa a + minus (not sm) m)) (minus sr r + (plus sa a + plus (not sm) m)) (e * 2)
+    → Component sr r sa (d * a) sm v d (e * 2 * d + e * 2 * d)
+component-of sr sa sm r a m v d e w k =
+    go sr sa sm (times-d (plus sr r) (minus sa a) (minus (not sm) m) (minus sr r) (plus sa a) (plus (not sm) m) (e * 2) d k)
+  where
+    go : (sr sa sm : Bool) → Within (plus sr r * d + (minus sa a * d + minus (not sm) m * d)) (minus sr r * d + (plus sa a * d + plus (not sm) m * d)) (e * 2 * d) → Component sr r sa (d * a) sm v d (e * 2 * d + e * 2 * d)
+    go true true true k = omega (arith, zero-mul d, mul-comm d a)
+    go true true false k = omega (arith, zero-mul d, mul-comm d a)
+    go true false true k = omega (arith, zero-mul d, mul-comm d a)
+    go true false false k = omega (arith, zero-mul d, mul-comm d a)
+    go false true true k = omega (arith, zero-mul d, mul-comm d a)
+    go false true false k = omega (arith, zero-mul d, mul-comm d a)
+    go false false true k = omega (arith, zero-mul d, mul-comm d a)
+    go false false false k = omega (arith, zero-mul d, mul-comm d a)
+
+room : (a m d e : ℕ) → 100000 * e ≤ d → a ≤ d + 32 * e → m ≤ d * 2 + 300 * e → a + m ≤ d * 4
+room a m d e k h l = omega arith
+
+-- the dot product, by its own sign
+own-sign : (s : Bool) (δ d m p r : ℕ) → Within (plus s δ * d + m) (minus s δ * d + p) r → Within (δ * d + cond s p m) (cond s m p) r
+own-sign true δ d m p r w = omega (arith, zero-mul d)
+own-sign false δ d m p r w = omega (arith, zero-mul d)
+
+-- ---- one component
+record Mirrored (q : Float) (sq : Bool) (δ : ℕ) (a b : Float) (sa sb : Bool) (A B : ℕ) : Type 0 where
+  sign : Bool
+  size : ℕ
+  has : Num (mirrored q a b) sign size
+  near : Component sign size sa (D * A) (unlike sq sb) (δ * 2 * B) D (4 * (E * D))
+  most : size ≤ D * 4
+
+module _ (q : Float) (sq : Bool) (δ : ℕ) (hq : Num q sq (δ * 2)) (lq : δ ≤ D + 69 * E) (a b : Float) (sa sb : Bool) (A B : ℕ) (ha : Num a sa A) (hb : Num b sb B) (la : A ≤ D + 32 * E) (lb : B ≤ D + 32 * E) where
+  m : Sized binary32 (mul binary32 q b) (unlike sq sb) D (δ * 2 * B) (E * 2) (D * 4)
+  m = mul-near binary32 q b sq sb (δ * 2) B 2 hq hb (mirror-product D E δ B (lit≤ tt) lq lb) (lit≤ tt)
+
+  m-le : m .size ≤ D * 2 + 300 * E
+  m-le = mirror-part D E δ B (m .size) (lit≤ tt) lq lb (m .near) (pow-pos 149)
+
+  mirrored-is : Signed binary32 (mirrored q a b) (plus sa A + plus (not (unlike sq sb)) (m .size)) (minus sa A + minus (not (unlike sq sb)) (m .size)) (E * 2) (D * 4)
+  mirrored-is =
+      let w = sides sa (not (unlike sq sb)) A (m .size) (D * 4) (room A (m .size) D E (lit≤ tt) la m-le) in
+      sub-near binary32 2 (lit≤ tt) a (mul binary32 q b) sa (unlike sq sb) A (m .size) ha (m .has) (w .0) (w .1)
+
+  mirrored-near : Component (mirrored-is .sign) (mirrored-is .size) sa (D * A) (unlike sq sb) (δ * 2 * B) D (E * 2 * D + E * 2 * D)
+  mirrored-near = component-of (mirrored-is .sign) sa (unlike sq sb) (mirrored-is .size) A (m .size) (δ * 2 * B) D E (m .near) (mirrored-is .near)
+
+  mirrored-of : Mirrored q sq δ a b sa sb A B
+  mirrored-of = record { sign = mirrored-is .sign; size = mirrored-is .size; has = mirrored-is .has; near = mirrored-near; most = mirrored-is .most }
+
+-- ---- the whole
+module _ (v w : Vec3) (a b : Exact) (ra : Reads v a) (rb : Reads w b) (na : Norm a (D * D) (64 * (E * D))) (nb : Norm b (D * D) (64 * (E * D))) where
+  d : Dotted a b (dot v w) 64
+  d = dot-near v w a b 64 (lit≤ tt) ra rb na nb
+
+  q : Float
+  q = mul binary32 two (dot v w)
+
+  q-is : Num q (d .sign) (d .size * 2)
+  unfolding q
+  q-is = subst (λ (s : Bool). Num (mul binary32 two (dot v w)) s (d .size * 2)) (plain-sign (d .sign))
+      (power-times binary32 two (dot v w) false (d .sign) (d .size) (dot-fits v w) (d .has) 1 two-is (lt-of-le-of-lt (mul-le-mul-right 2 (d .most)) (lit< tt)))
+
+  a-sizes : (a .ax * a .ax ≤ D * D + 64 * (E * D)) × ((a .ay * a .ay ≤ D * D + 64 * (E * D)) × (a .az * a .az ≤ D * D + 64 * (E * D)))
+  a-sizes = parts-of (a .ax * a .ax) (a .ay * a .ay) (a .az * a .az) (D * D + 64 * (E * D)) (na .0)
+
+  b-sizes : (b .ax * b .ax ≤ D * D + 64 * (E * D)) × ((b .ay * b .ay ≤ D * D + 64 * (E * D)) × (b .az * b .az ≤ D * D + 64 * (E * D)))
+  b-sizes = parts-of (b .ax * b .ax) (b .ay * b .ay) (b .az * b .az) (D * D + 64 * (E * D)) (nb .0)
+
+  at-x : Mirrored q (d .sign) (d .size) (v .x) (w .x) (a .sx) (b .sx) (a .ax) (b .ax)
+  at-x = mirrored-of q (d .sign) (d .size) q-is (d .most) (v .x) (w .x) (a .sx) (b .sx) (a .ax) (b .ax) (ra .at-x) (rb .at-x) (size-le D E (a .ax) (a-sizes .0)) (size-le D E (b .ax) (b-sizes .0))
+
+  at-y : Mirrored q (d .sign) (d .size) (v .y) (w .y) (a .sy) (b .sy) (a .ay) (b .ay)
+  at-y = mirrored-of q (d .sign) (d .size) q-is (d .most) (v .y) (w .y) (a .sy) (b .sy) (a .ay) (b .ay) (ra .at-y) (rb .at-y) (size-le D E (a .ay) (a-sizes .1 .0)) (size-le D E (b .ay) (b-sizes .1 .0))
+
+  at-z : Mirrored q (d .sign) (d .size) (v .z) (w .z) (a .sz) (b .sz) (a .az) (b .az)
+  at-z = mirrored-of q (d .sign) (d .size) q-is (d .most) (v .z) (w .z) (a .sz) (b .sz) (a .az) (b .az) (ra .at-z) (rb .at-z) (size-le D E (a .az) (a-sizes .1 .1)) (size-le D E (b .az) (b-sizes .1 .1))
+
+  pub reflected : Exact
+  reflected = record { sx = at-x .sign; ax = at-x .size; sy = at-y .sign; ay = at-y .size; sz = at-z .sign; az = at-z .size }
+
+  pub reflected-reads : Reads (reflect v w) reflected
+  unfolding reflected q reflect sub numberMul
+  reflected-reads = record { at-x = at-x .has; at-y = at-y .has; at-z = at-z .has }
+
+  pub reflected-norm : Norm reflected (D * D) (440 * (E * D))
+  unfolding reflected
+  reflected-norm =
+      mirror-length D E (d .size) (toward (d .sign) a b) (against (d .sign) a b) (norm reflected) (norm a) (norm b) (lit≤ tt) (d .most)
+      (own-sign (d .sign) (d .size) D (under a b) (above a b) (5 * (E * D)) (d .near)) na nb
+      (difference D (4 * (E * D)) (D * 4) D (d .sign) (d .size * 2) a b reflected (at-x .most) (at-y .most) (at-z .most) (at-x .near) (at-y .near) (at-z .near))
+      (lit< tt)
