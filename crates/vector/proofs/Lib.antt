@@ -42,3 +42,5 @@ pub mod RefractNumbers
 pub mod RefractRoundings
 pub mod RefractLaws
 pub mod NumericTheorems
+pub mod NonZeroLaws
+pub mod AssertedLaws

@@ -15,13 +15,13 @@ pub like : (s : Bool) → unlike s s ≡ false
 like true = refl
 like false = refl
 
-square-sign : (f : Format) (x : Float) → negative (mul f x x) ≡ false
+pub square-sign : (f : Format) (x : Float) → negative (mul f x x) ≡ false
 unfolding mul negative
 square-sign f nan = refl
 square-sign f (inf s) = like s
 square-sign f (fin s m e) = round-nearest f (unlike s s) (m * up e * (m * up e)) (down e * down e) (mul-pos (down-pos e) (down-pos e)) .sign ∙ like s
 
-sum-sign : (f : Format) (x y : Float) → negative x ≡ false → negative y ≡ false → negative (add f x y) ≡ false
+pub sum-sign : (f : Format) (x y : Float) → negative x ≡ false → negative y ≡ false → negative (add f x y) ≡ false
 unfolding add sum negative
 sum-sign f nan y p q = refl
 sum-sign f (inf true) y p q = absurd (true≢false p)

@@ -21,3 +21,4 @@ pub mod Homogeneous
 pub mod Asserts
 pub mod NumericLaws
 pub mod Corners
+pub mod AssertLaws
