@@ -1,8 +1,7 @@
 -- What the functions of the root promise each other.
 use mathlib.Core.Path.{_≡_}
-use Prim.Native.Nat.{ℕ, zero, suc, _+_, _-_, _*_, _%_, _^_, _≤_, _<_}
-use mathlib.Core.List.{List, [], _∷_}
-use Rattle.scalar.specs.Root.{WholeRoot, wholeRoot}
+use Prim.Native.Nat.{ℕ, _+_, _-_, _*_, _%_, _^_, _≤_, _<_}
+use Rattle.scalar.specs.Root.{WholeRoot}
 
 -- a significand above zero and its count of digits
 pub record Positive (q k : ℕ) : Type 0 where
@@ -31,8 +30,3 @@ pub record AboveRoot (n c x : ℕ) : Type 0 where
   pub is : WholeRoot n root
   pub least : root ≤ x
   pub most : x ≤ root + c
-
--- the first roots for n numbers from k on
-unfoldable pub rootsFrom : ℕ → ℕ → List ℕ
-rootsFrom zero k = []
-rootsFrom (suc n) k = wholeRoot 8 (64 * k) ∷ rootsFrom n (k + 1)
