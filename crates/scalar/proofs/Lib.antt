@@ -5,6 +5,7 @@ pub mod SignLaws
 pub mod BitSignLaws
 pub mod WholeRootLaws
 pub mod FirstRoots
+pub mod PackedBytes
 pub mod NewtonLaws
 pub mod RootLaws
 pub mod RootPartsLaws
