@@ -69,15 +69,9 @@ sum-le ρ (by m c d h hs) = add-le-add (mul-le-mul-left (val ρ m) h) (sum-le ρ
 cancel : (a b c d : ℕ) → c ≤ d → a + d ≤ b + c → a ≤ b
 cancel a b c d h k = omega arith
 
-cancel< : (a b c d : ℕ) → c ≤ d → a + 1 + d ≤ b + c → a < b
-cancel< a b c d h k = omega arith
-
 -- a ≤ b, if a + Σ m d has at most the coefficients of b + Σ m c
 pub cert : (ρ : List ℕ) (a b : Expr) (hs : Hyps ρ) → T (leP (nf (a ⊕ rights hs)) (nf (b ⊕ lefts hs))) → val ρ a ≤ val ρ b
 cert ρ a b hs t = cancel (val ρ a) (val ρ b) (val ρ (lefts hs)) (val ρ (rights hs)) (sum-le ρ hs) (ring≤ ρ (a ⊕ rights hs) (b ⊕ lefts hs) t)
-
-pub cert< : (ρ : List ℕ) (a b : Expr) (hs : Hyps ρ) → T (leP (nf (a ⊕ lit 1 ⊕ rights hs)) (nf (b ⊕ lefts hs))) → val ρ a < val ρ b
-cert< ρ a b hs t = cancel< (val ρ a) (val ρ b) (val ρ (lefts hs)) (val ρ (rights hs)) (sum-le ρ hs) (ring≤ ρ (a ⊕ lit 1 ⊕ rights hs) (b ⊕ lefts hs) t)
 
 -- the same for a goal times K
 pub cert-times : (K : ℕ) (ρ : List ℕ) (a b : Expr) (hs : Hyps ρ) → 0 < K → T (leP (nf (a ⊗ lit K ⊕ rights hs)) (nf (b ⊗ lit K ⊕ lefts hs))) → val ρ a ≤ val ρ b

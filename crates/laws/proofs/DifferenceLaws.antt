@@ -4,11 +4,11 @@ use mathlib.Core.Bool.{Bool, true, false}
 use Prim.Native.Nat.{ℕ, _-_, _^_, _≤_, _<_, compare, Ordering, Ordering·lt, Ordering·eq, Ordering·gt}
 use native.Mathlib.Omega.{arith}
 use lib.Ieee.{Float, Format, low, unlike, round, sum, sub}
-use lib.Ieee.Exact.{HasValue}
 use Rattle.laws.specs.Within.{distance, Within}
 use Rattle.laws.proofs.CompareLaws.{Cmp, cmp}
 use Rattle.laws.proofs.SumSigns.{sum-unlike, sum-below, sum-cancel}
 use Rattle.laws.proofs.OperationLaws.{sub-at}
+use Rattle.laws.proofs.ValueLaws.{Value}
 
 -- what a distance says, and the least that does
 pub distance-within : (a b : ℕ) → Within a b (distance a b)
@@ -38,5 +38,5 @@ module _ (f : Format) where
       go Ordering·gt h = taken s (a - b) (more a b h) (sum-unlike f s t a b c e h)
       go Ordering·eq h = taken false 0 (none a b h) (subst (λ (n : ℕ). sum f s a t n c ≡ round f false 0 c) h (sum-cancel f s t a c e))
 
-  pub difference-at : (x y : Float) (X Y : ℕ) → HasValue x false X (2 ^ low f) → HasValue y false Y (2 ^ low f) → (u : Bool) × (sub f x y ≡ round f u (distance X Y) (2 ^ low f))
+  pub difference-at : (x y : Float) (X Y : ℕ) → Value f x false X → Value f y false Y → (u : Bool) × (sub f x y ≡ round f u (distance X Y) (2 ^ low f))
   difference-at x y X Y h k = let d = sum-distance false true X Y (2 ^ low f) refl in (d .0, sub-at f x y false false X Y h k ∙ d .1)

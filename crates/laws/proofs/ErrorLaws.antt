@@ -1,17 +1,19 @@
 -- How far rounding goes, in sizes: n / d of a format's smallest values, rounded, against n / d. Assumes nothing.
 use mathlib.Core.Path.{_≡_, sym, ap, _∙_, subst, subst₂}
 use mathlib.Core.Bool.{Bool, true, false, not}
-use Prim.Native.Nat.{ℕ, _+_, _-_, _*_, _^_, _≤_, _<_}
-use native.Mathlib.Nat.{le-trans, le-of-eq, le-antisymm, le-of-mul-le-mul-right, lt-of-mul-lt-mul-right, add-mul, mul-one, mul-assoc, mul-right-comm, mul-le-mul-right, mul-pos}
+use Prim.Native.Nat.{ℕ, zero, suc, _+_, _-_, _*_, _^_, _≤_, _<_}
+use native.Mathlib.Nat.{le-trans, le-of-eq, le-antisymm, lt-of-le-of-lt, mul-comm, mul-le-mul-left, le-of-mul-le-mul-right, lt-of-mul-lt-mul-right, add-mul, mul-one, mul-assoc, mul-right-comm, mul-le-mul-right, mul-pos}
 use native.Mathlib.Omega.{arith}
 use lib.Dec.{T, leb, leb→le, nleb→lt}
-use lib.Pow.{pow-pos}
-use lib.Ieee.{Float, Format, prec, low, round}
-use lib.Ieee.Exact.{HasValue, units-val}
+use lib.Pow.{pow-pos, pow-mono, pow-lt}
+use lib.Ieee.{Float, Format, prec, emax, low, round}
+use lib.Ieee.Exact.{units-val}
 use lib.Ieee.Fits.{round-is}
 use lib.Ieee.Order.{drop, kept}
 use lib.Ieee.Scale.{grid, overflow, finite, normal-of-fraction}
 use Rattle.laws.specs.Within.{Within}
+use Rattle.laws.proofs.ValueLaws.{Value}
+use Rattle.laws.proofs.GridErrorLaws.{unit, halfUlp, grid-le, grid-ge, grid-error}
 use Rattle.laws.proofs.RoundingError.{prec-twice, round-error, round-relative, finite-round}
 
 -- n / d smallest values, rounded to a whole number of them
@@ -28,19 +30,19 @@ turn g d l q = omega arith
 module _ (f : Format) where
   -- ---- the rounded value has that size: where it is finite, and where the size is below the overflow
   module _ (x : Float) (s : Bool) (n d : ℕ) (e : x ≡ round f s n (d * 2 ^ low f)) where
-    pub finite-rounded : T (finite x) → HasValue x s (rounded f n d) (2 ^ low f)
+    pub finite-rounded : T (finite x) → Value f x s (rounded f n d)
     unfolding rounded
     finite-rounded t =
-        subst (λ (y : Float). HasValue y s (grid f n (d * 2 ^ low f)) (2 ^ low f)) (sym e)
+        subst (λ (y : Float). Value f y s (grid f n (d * 2 ^ low f))) (sym e)
         (finite-round f s n (d * 2 ^ low f) (subst (λ (y : Float). T (finite y)) e t))
 
-    pub under-rounded : rounded f n d < overflow f → HasValue x s (rounded f n d) (2 ^ low f)
+    pub under-rounded : rounded f n d < overflow f → Value f x s (rounded f n d)
     unfolding rounded
     under-rounded h =
-        subst (λ (y : Float). HasValue y s (grid f n (d * 2 ^ low f)) (2 ^ low f)) (sym (e ∙ round-is f s n (d * 2 ^ low f)))
+        subst (λ (y : Float). Value f y s (grid f n (d * 2 ^ low f))) (sym (e ∙ round-is f s n (d * 2 ^ low f)))
         (units-val f s (kept (prec f) (n * 2 ^ low f) (d * 2 ^ low f)) (drop (prec f) (n * 2 ^ low f) (d * 2 ^ low f)) h)
 
-  -- ---- the error, times 2 ^ prec: always at most n / d and 2 ^ (prec - 1) smallest values
+  -- ---- the error, relative to n / d and times 2 ^ prec: always at most n / d and 2 ^ (prec - 1) smallest values
   pub rounded-error : (n d : ℕ) → 0 < d → Within (rounded f n d * d * 2 ^ prec f) (n * 2 ^ prec f) (n + d * 2 ^ (prec f - 1))
   unfolding rounded
   rounded-error n d h =
@@ -96,3 +98,39 @@ module _ (f : Format) where
           none (rounded f n 1 * 2 ^ prec f) (n * 2 ^ prec f) n
           (ap (λ (m : ℕ). m * 2 ^ prec f)
           (itself (rounded f n 1) n (2 ^ (prec f - 1)) (subst (λ (q : ℕ). Within (rounded f n 1 * 1 * q) (n * q) (n + 1 * 2 ^ (prec f - 1))) (prec-twice f) (rounded-error n 1 (omega arith))) (k tt)))
+
+  -- ---- bounds by a power of two, 1 being `unit f`: a number up to 2 ^ j, j above 0, is off by at most 2 ^ (j - 1) times `halfUlp f`
+  scaled-pos : (d : ℕ) → 0 < d → 0 < d * unit f
+  scaled-pos d D = mul-pos D (pow-pos (low f))
+
+  pub rounded-least : (n d j : ℕ) → 0 < d → d * unit f * 2 ^ j ≤ n → 2 ^ (low f + j) ≤ rounded f n d
+  unfolding rounded
+  rounded-least n d j D h = grid-ge f n (d * unit f) j (scaled-pos d D) h
+
+  module _ (n d j : ℕ) (D : 0 < d) (h : n ≤ d * unit f * 2 ^ j) where
+    pub rounded-most : rounded f n d ≤ 2 ^ (low f + j)
+    unfolding rounded
+    rounded-most = grid-le f n (d * unit f) j (scaled-pos d D) h
+
+    pub rounded-near : Within (rounded f n d * d) n (halfUlp f * 2 ^ (j - 1) * d)
+    unfolding rounded
+    rounded-near =
+        within-scaled (grid f n (d * unit f) * d) n (halfUlp f * 2 ^ (j - 1) * d) (unit f) (pow-pos (low f))
+        (subst₂ (λ (a c : ℕ). Within a (n * unit f) c) (sym (mul-assoc (grid f n (d * unit f)) d (unit f))) (sym (mul-assoc (halfUlp f * 2 ^ (j - 1)) d (unit f)))
+        (error (d * unit f) j (scaled-pos d D) h))
+      where
+        turned : (x y c e : ℕ) → Within x y (c * e) → Within x y (e * c)
+        turned x y c e k = subst (λ (z : ℕ). Within x y z) (mul-comm c e) k
+
+        less : (g : ℕ) → g ≡ suc g - 1
+        less g = omega arith
+
+        error : (c j : ℕ) → 0 < c → n ≤ c * 2 ^ j → Within (grid f n c * c) (n * unit f) (halfUlp f * 2 ^ (j - 1) * c)
+        error c zero C k = turned (grid f n c * c) (n * unit f) c (halfUlp f * 1) (grid-error f n c 0 C (le-trans k (mul-le-mul-left c (pow-mono {i = 0} {j = 1} (omega arith)))))
+        error c (suc g) C k = turned (grid f n c * c) (n * unit f) c (halfUlp f * 2 ^ (suc g - 1)) (subst (λ (i : ℕ). Within (grid f n c * c) (n * unit f) (c * (halfUlp f * 2 ^ i))) (less g) (grid-error f n c g C k))
+
+    pub rounded-value : (x : Float) (s : Bool) → j ≤ emax f → x ≡ round f s n (d * unit f) → Value f x s (rounded f n d)
+    rounded-value x s J e = under-rounded x s n d e (lt-of-le-of-lt rounded-most (pow-lt (room (low f) j (emax f) J)))
+      where
+        room : (l g m : ℕ) → g ≤ m → l + g < l + suc m
+        room l g m h = omega arith

@@ -12,19 +12,13 @@ use lib.Ieee.Scale.{overflow, finite}
 use Rattle.laws.specs.Exact.{negative}
 use Rattle.laws.proofs.Ring.{var, _⊗_}
 use Rattle.laws.proofs.RingNat.{ring}
+use Rattle.laws.proofs.ValueLaws.{Value, value-finite}
 use Rattle.laws.proofs.SizeLaws.{Digits, digits, size-of-value, size-below}
 use Rattle.laws.proofs.GridErrorLaws.{unit}
 use Rattle.laws.proofs.OperationLaws.{mul-at}
-use Rattle.laws.proofs.RoundedOperations.{Is}
-
--- what has a sign and a size is finite
-pub value-finite : (x : Float) (s : Bool) (n d : ℕ) → HasValue x s n d → T (finite x)
-value-finite nan s n d h = absurd h
-value-finite (inf t) s n d h = absurd h
-value-finite (fin t m e) s n d h = tt
 
 -- from one fraction to another of the same size
-pub rescale : (x : Float) (s : Bool) (a c b d : ℕ) → 0 < c → b * c ≡ a * d → HasValue x s a c → HasValue x s b d
+rescale : (x : Float) (s : Bool) (a c b d : ℕ) → 0 < c → b * c ≡ a * d → HasValue x s a c → HasValue x s b d
 rescale nan s a c b d C h v = v
 rescale (inf t) s a c b d C h v = v
 rescale (fin t m e) s a c b d C h v = (
@@ -33,7 +27,7 @@ rescale (fin t m e) s a c b d C h v = (
       (mul-right-comm (m * up e) d c ∙ ap (λ (x : ℕ). x * d) (v .1) ∙ mul-right-comm a (down e) d ∙ ap (λ (x : ℕ). x * down e) (sym h) ∙ mul-right-comm b c (down e)),
 )
 
-module _ (f : Format) (u x : Float) (t s : Bool) (n : ℕ) (F : T (fits f x)) (k : Is f x s n) where
+module _ (f : Format) (u x : Float) (t s : Bool) (n : ℕ) (F : T (fits f x)) (k : Value f x s n) where
   number : T (finite x)
   number = value-finite x s n (unit f) k
 
@@ -43,12 +37,12 @@ module _ (f : Format) (u x : Float) (t s : Bool) (n : ℕ) (F : T (fits f x)) (k
   digits-are : n ≡ w .kept * 2 ^ w .zeros
   digits-are = sym (size-of-value f x s n k .0) ∙ size-of-value f x (negative x) (w .kept * 2 ^ w .zeros) (w .value) .0
 
-  pub power-times : (g : ℕ) → Is f u t (unit f * 2 ^ g) → n * 2 ^ g < overflow f → Is f (mul f u x) (unlike t s) (n * 2 ^ g)
+  pub power-times : (g : ℕ) → Value f u t (unit f * 2 ^ g) → n * 2 ^ g < overflow f → Value f (mul f u x) (unlike t s) (n * 2 ^ g)
   power-times g h under =
       let l = unit f in
       let L : 0 < l * l = mul-pos (pow-pos (low f)) (pow-pos (low f)) in
       let e : n * 2 ^ g ≡ w .kept * 2 ^ (w .zeros + g) = ap (λ (y : ℕ). y * 2 ^ g) digits-are ∙ mul-assoc (w .kept) (2 ^ w .zeros) (2 ^ g) ∙ ap (λ (y : ℕ). w .kept * y) (sym (pow-add 2 (w .zeros) g)) in
-      subst (λ (v : Float). Is f v (unlike t s) (n * 2 ^ g)) (sym (mul-at f u x t s (l * 2 ^ g) n h k))
+      subst (λ (v : Float). Value f v (unlike t s) (n * 2 ^ g)) (sym (mul-at f u x t s (l * 2 ^ g) n h k))
       (rescale (round f (unlike t s) (l * 2 ^ g * n) (l * l)) (unlike t s) (l * 2 ^ g * n) (l * l) (n * 2 ^ g) l L (sym (turn n l (2 ^ g)))
       (round-exact f (unlike t s) (l * 2 ^ g * n) (l * l) (w .kept) (w .zeros + g) L (w .few) (subst (λ (y : ℕ). y < overflow f) e under)
       (turn n l (2 ^ g) ∙ ap (λ (y : ℕ). y * (l * l)) e)))
@@ -57,8 +51,8 @@ module _ (f : Format) (u x : Float) (t s : Bool) (n : ℕ) (F : T (fits f x)) (k
       turn n l p = ring (n ∷ l ∷ p ∷ []) (var 1 ⊗ var 2 ⊗ var 0 ⊗ var 1) (var 0 ⊗ var 2 ⊗ (var 1 ⊗ var 1)) refl
 
   -- ±1
-  pub one-times : Is f u t (unit f) → Is f (mul f u x) (unlike t s) n
+  pub one-times : Value f u t (unit f) → Value f (mul f u x) (unlike t s) n
   one-times h =
-      subst (λ (m : ℕ). Is f (mul f u x) (unlike t s) m) (mul-one n)
-      (power-times 0 (subst (λ (m : ℕ). Is f u t m) (sym (mul-one (unit f))) h)
+      subst (λ (m : ℕ). Value f (mul f u x) (unlike t s) m) (mul-one n)
+      (power-times 0 (subst (λ (m : ℕ). Value f u t m) (sym (mul-one (unit f))) h)
       (subst (λ (m : ℕ). m < overflow f) (size-of-value f x s n k .0 ∙ sym (mul-one n)) (size-below f x F number)))

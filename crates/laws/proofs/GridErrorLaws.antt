@@ -1,19 +1,20 @@
 -- A fraction rounded, in units of the format's smallest value (`grid`): a power of two bounds the result where it bounds the fraction, and bounds its error. Assumes nothing.
-use mathlib.Core.Path.{_≡_, refl, sym, ap, _∙_, subst}
+use mathlib.Core.Path.{_≡_, refl, sym, ap, _∙_}
 use mathlib.Core.Logic.{inl, inr}
-use mathlib.Core.Bool.{Bool}
-use Prim.Native.Nat.{ℕ, zero, suc, _+_, _-_, _*_, _/_, _%_, _^_, _≤_, _<_, compare, Ordering, Ordering·lt, compare·zero-suc}
-use native.Mathlib.Nat.{le-trans, le-of-eq, lt-of-lt-of-le, lt-of-le-of-lt, lt-irrefl, eq-or-lt-of-le, mul-comm, mul-assoc, mul-left-comm, mul-right-comm, mul-le-mul, mul-le-mul-left, mul-le-mul-right, mul-lt-mul-of-pos-right, mul-pos, mul-div-cancel, mul-mod-left, div-lt-iff-lt-mul, le-div-iff-mul-le, div-div-eq-div-mul}
+use Prim.Native.Nat.{ℕ, suc, _+_, _-_, _*_, _/_, _^_, _≤_, _<_}
+use native.Mathlib.Nat.{le-trans, le-of-eq, lt-of-lt-of-le, lt-of-le-of-lt, eq-or-lt-of-le, mul-comm, mul-assoc, mul-left-comm, mul-right-comm, mul-le-mul, mul-le-mul-left, mul-le-mul-right, mul-lt-mul-of-pos-right, mul-pos, div-lt-iff-lt-mul, le-div-iff-mul-le}
 use native.Mathlib.Omega.{arith}
-use lib.Pow.{pow-pos, pow-add, pow-mono, pow-lt}
-use lib.Ieee.{Float, Format, binary32, binary64, prec, emax, low, size, nearest, round}
-use lib.Ieee.Digits.{size-lt, size-le, size-reaches}
-use lib.Ieee.Fits.{kept-lt, nearest-le, round-is, two, two-le-pos}
-use lib.Ieee.Exact.{HasValue, units-val}
-use lib.Ieee.Nearest.{closest, nearest-ge}
-use lib.Ieee.Order.{drop, kept}
+use lib.Pow.{pow-pos, pow-add, pow-mono}
+use lib.Ieee.{Format, binary32, binary64, prec, emax, low, size}
+use lib.Ieee.Digits.{size-le}
+use lib.Ieee.Fits.{two, two-le-pos}
+use lib.Ieee.Nearest.{closest}
+use lib.Ieee.Order.{drop}
 use lib.Ieee.Scale.{grid}
 use Rattle.laws.specs.Within.{Within}
+use Rattle.laws.proofs.ClosestLaws.{closest-is}
+use Rattle.laws.proofs.ValueLaws.{size-more}
+use Rattle.laws.proofs.KeptLaws.{kept-le, kept-ge}
 use Rattle.laws.proofs.RoundingError.{grid-near}
 
 -- 1, and half a unit in the last place between 1 and 2: the error of a rounding there
@@ -28,23 +29,7 @@ low-is : (f : Format) → emax f - 2 + prec f ≡ low f
 low-is binary32 = refl
 low-is binary64 = refl
 
--- ---- what is kept
-kept-le : (p n c : ℕ) → kept p n c ≤ 2 ^ p
-kept-le p n c =
-    let k = drop p n c in
-    let u = c * 2 ^ k in
-    le-trans (nearest-le (n / u) (compare (n % u * 2) u)) (subst (λ (x : ℕ). x < 2 ^ p) (div-div-eq-div-mul n c (2 ^ k)) (kept-lt p (n / c)))
-
-kept-ge : (p n c : ℕ) → 0 < p → 0 < drop p n c → 2 ^ (p - 1) ≤ kept p n c
-kept-ge p n c P K =
-    let k = drop p n c in
-    let u = c * 2 ^ k in
-    let a : 2 ^ (p - 1) * 2 ^ k ≤ n / c = le-trans (le-of-eq (sym (pow-add 2 (p - 1) k))) (size-reaches (n / c) (p - 1 + k) (used (size (n / c)) p P K)) in
-    le-trans (subst (λ (x : ℕ). 2 ^ (p - 1) ≤ x) (div-div-eq-div-mul n c (2 ^ k)) (le-div-iff-mul-le (pow-pos k) .1 a)) (nearest-ge (n / u) (compare (n % u * 2) u))
-  where
-    used : (z p : ℕ) → 0 < p → 0 < z - p → p - 1 + (z - p) < z
-    used z p P h = omega arith
-
+-- ---- what is dropped
 -- a fraction below 2 ^ j drops at most j - p digits
 drop-le : (p n c j : ℕ) → 0 < c → n < 2 ^ j * c → drop p n c ≤ j - p
 drop-le p n c j C h = fewer (size (n / c)) j p (size-le (n / c) j (div-lt-iff-lt-mul C .1 h))
@@ -54,30 +39,14 @@ drop-le p n c j C h = fewer (size (n / c)) j p (size-le (n / c) j (div-lt-iff-lt
 
 -- one of 2 ^ j at least drops j + 1 - p at least
 drop-ge : (p n c j : ℕ) → 0 < c → 2 ^ j * c ≤ n → suc j - p ≤ drop p n c
-drop-ge p n c j C h = fewer (suc j) (size (n / c)) p (more (n / c) j (le-div-iff-mul-le C .1 h))
+drop-ge p n c j C h = fewer (suc j) (size (n / c)) p (size-more (n / c) j (le-div-iff-mul-le C .1 h))
   where
     fewer : (x y p : ℕ) → x ≤ y → x - p ≤ y - p
     fewer x y p h = omega arith
 
-    flip : (z j : ℕ) → (z ≤ j → ⊥) → suc j ≤ z
-    flip z j h = omega arith
-
-    no : (m j : ℕ) → 2 ^ j ≤ m → m < 2 ^ j → ⊥
-    no m j h k = omega arith
-
-    more : (m j : ℕ) → 2 ^ j ≤ m → suc j ≤ size m
-    more m j h = flip (size m) j (λ (g : size m ≤ j). no m j h (lt-of-lt-of-le (size-lt m) (pow-mono g)))
-
 -- ---- a whole multiple of the unit is its own nearest
-above-zero : (u : ℕ) → 0 < u → compare 0 u ≡ Ordering·lt
-above-zero zero h = absurd (lt-irrefl 0 h)
-above-zero (suc u) h = compare·zero-suc u
-
-pub closest-mul : (q u : ℕ) → 0 < u → closest (q * u) u ≡ q
-closest-mul q u h =
-    ap (λ (x : ℕ). nearest x (compare (q * u % u * 2) u)) (mul-div-cancel q h)
-    ∙ ap (λ (x : ℕ). nearest q (compare (x * 2) u)) (mul-mod-left q u)
-    ∙ ap (λ (o : Ordering). nearest q o) (above-zero u h)
+closest-mul : (q u : ℕ) → 0 < u → closest (q * u) u ≡ q
+closest-mul q u h = closest-is (q * u) u q h (omega arith) (omega arith)
 
 turn : (c x y : ℕ) → c * x * y ≡ y * x * c
 turn c x y = simp (mul-assoc, mul-comm, mul-left-comm)
@@ -87,16 +56,13 @@ module _ (f : Format) (a c g : ℕ) (C : 0 < c) where
   up-there : a ≡ c * 2 ^ g → a * 2 ^ low f ≡ 2 ^ (low f + g) * c
   up-there e = ap (λ (x : ℕ). x * 2 ^ low f) e ∙ turn c (2 ^ g) (2 ^ low f) ∙ ap (λ (x : ℕ). x * c) (sym (pow-add 2 (low f) g))
 
-  lifted-le : a ≤ c * 2 ^ g → a * 2 ^ low f ≤ 2 ^ (low f + g) * c
-  lifted-le h = le-trans (mul-le-mul-right (2 ^ low f) h) (le-of-eq (turn c (2 ^ g) (2 ^ low f) ∙ ap (λ (x : ℕ). x * c) (sym (pow-add 2 (low f) g))))
-
   lifted-ge : c * 2 ^ g ≤ a → 2 ^ (low f + g) * c ≤ a * 2 ^ low f
   lifted-ge h = le-trans (le-of-eq (ap (λ (x : ℕ). x * c) (pow-add 2 (low f) g) ∙ sym (turn c (2 ^ g) (2 ^ low f)))) (mul-le-mul-right (2 ^ low f) h)
 
   lifted-lt : a < c * 2 ^ g → a * 2 ^ low f < 2 ^ (low f + g) * c
   lifted-lt h = lt-of-lt-of-le (mul-lt-mul-of-pos-right h (pow-pos (low f))) (le-of-eq (turn c (2 ^ g) (2 ^ low f) ∙ ap (λ (x : ℕ). x * c) (sym (pow-add 2 (low f) g))))
 
-  pub grid-exact : a ≡ c * 2 ^ g → grid f a c ≡ 2 ^ (low f + g)
+  grid-exact : a ≡ c * 2 ^ g → grid f a c ≡ 2 ^ (low f + g)
   grid-exact e = at (drop (prec f) (a * 2 ^ low f) c) inside
     where
       j : ℕ
@@ -154,7 +120,7 @@ module _ (f : Format) (a c g : ℕ) (C : 0 < c) where
       let K : suc (low f + g) - prec f ≤ k = drop-ge (prec f) (a * 2 ^ low f) c (low f + g) C (lifted-ge h) in
       le-trans
       (le-trans (pow-mono (reach (emax f - 2) (prec f) (low f) g k (low-is f) K)) (le-of-eq (pow-add 2 (prec f - 1) k)))
-      (mul-le-mul-right (2 ^ k) (kept-ge (prec f) (a * 2 ^ low f) c (two-le-pos (prec f) (two f)) (lt-of-lt-of-le (some (emax f - 2) (prec f) (low f) g (low-is f)) K)))
+      (mul-le-mul-right (2 ^ k) (kept-ge (prec f) (a * 2 ^ low f) c (two-le-pos (prec f) (two f)) C (lt-of-lt-of-le (some (emax f - 2) (prec f) (low f) g (low-is f)) K)))
     where
       reach : (m p l g k : ℕ) → m + p ≡ l → suc (l + g) - p ≤ k → l + g ≤ p - 1 + k
       reach m p l g k e h = omega arith
@@ -184,13 +150,3 @@ grid-error f a c g C h = elim (eq-or-lt-of-le h) [
 
     halve : (x y z w : ℕ) → w ≤ z * 2 → Within (x * 2) (y * 2) w → Within x y z
     halve x y z w h k = omega arith
-
--- ---- the rounded value, of either sign
-pub round-has : (f : Format) (s : Bool) (a c g : ℕ) → 0 < c → a ≤ c * 2 ^ g → g ≤ emax f → HasValue (round f s a c) s (grid f a c) (unit f)
-round-has f s a c g C h G =
-    subst (λ (x : Float). HasValue x s (grid f a c) (unit f)) (sym (round-is f s a c))
-    (units-val f s (kept (prec f) (a * 2 ^ low f) c) (drop (prec f) (a * 2 ^ low f) c)
-    (lt-of-le-of-lt (grid-le f a c g C h) (pow-lt (room (low f) g (emax f) G))))
-  where
-    room : (l g m : ℕ) → g ≤ m → l + g < l + suc m
-    room l g m h = omega arith

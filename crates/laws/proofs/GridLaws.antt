@@ -4,7 +4,7 @@ use mathlib.Core.Path.{_≡_, sym, ap, _∙_, subst, subst₂}
 use mathlib.Core.Bool.{Bool, true, false, not, cond}
 use mathlib.Core.Logic.{_⊎_, inl, inr}
 use Prim.Native.Nat.{ℕ, _+_, _-_, _*_, _%_, _^_, _≤_, _<_}
-use native.Mathlib.Nat.{le-trans, le-of-eq, le-of-lt, le-add-left, zero-mul, mul-one, mul-assoc, mul-comm, mul-lt-mul-of-pos-right, mul-pos, eq-of-mul-eq-mul-right}
+use native.Mathlib.Nat.{eq-zero-or-pos, le-trans, le-of-eq, le-of-lt, le-add-left, zero-mul, mul-one, mul-assoc, mul-comm, mul-lt-mul-of-pos-right, mul-pos, eq-of-mul-eq-mul-right}
 use native.Mathlib.Omega.{arith}
 use lib.Dec.{T, leb, leb→le, nleb→lt}
 use lib.Pow.{pow-add, pow-pos}
@@ -15,7 +15,7 @@ use lib.Ieee.Scale.{grid, finite}
 use Rattle.laws.specs.Within.{distance}
 use Rattle.laws.specs.Exact.{sizeIn}
 use Rattle.laws.proofs.ClosestLaws.{closest-best, closest-tie}
-use Rattle.laws.proofs.KeptLaws.{zero-or-more, whole-reaches}
+use Rattle.laws.proofs.KeptLaws.{whole-reaches}
 use Rattle.laws.proofs.SizeLaws.{coarse}
 
 module _ (f : Format) (a c : ℕ) (C : 0 < c) where
@@ -54,7 +54,7 @@ module _ (f : Format) (a c : ℕ) (C : 0 < c) where
 
   zero-tie : distance (grid f a c * c) n ≡ n → kept (prec f) n c % 2 ≡ 0
   zero-tie e =
-      elim (zero-or-more (kept (prec f) n c)) [
+      elim (eq-zero-or-pos (kept (prec f) n c)) [
         | inl z ↦ ap (λ (x : ℕ). x % 2) z
         | inr z ↦ multiple-tie 0 (λ (g : kept (prec f) n c ≡ 0). not-both (kept (prec f) n c) z g) (e ∙ sym from-zero)
       ]
@@ -70,7 +70,7 @@ module _ (f : Format) (a c : ℕ) (C : 0 < c) where
   module _ (y : Float) (h : T (fits f y)) (t : T (finite y)) where
     -- it is such a multiple, or it is farther, being below the power of two that a / c has reached
     beats : (distance (grid f a c * c) n < distance (sizeIn f y * c) n) ⊎ ((w : ℕ) × (sizeIn f y ≡ w * 2 ^ k))
-    beats = go (leb (2 ^ (prec f - 1 + k)) (sizeIn f y)) (leb→le (2 ^ (prec f - 1 + k)) (sizeIn f y)) (nleb→lt (2 ^ (prec f - 1 + k)) (sizeIn f y)) (zero-or-more k)
+    beats = go (leb (2 ^ (prec f - 1 + k)) (sizeIn f y)) (leb→le (2 ^ (prec f - 1 + k)) (sizeIn f y)) (nleb→lt (2 ^ (prec f - 1 + k)) (sizeIn f y)) (eq-zero-or-pos k)
       where
         b : ℕ
         b = 2 ^ (prec f - 1)

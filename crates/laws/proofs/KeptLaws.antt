@@ -1,8 +1,8 @@
 -- Of n / c rounded to p digits: how large the kept number is, and from where on the result reaches 2 ^ (p + 1 + e). Assumes nothing.
-use mathlib.Core.Path.{_≡_, refl, sym, ap, _∙_, subst}
-use mathlib.Core.Logic.{_⊎_, inl, inr}
+use mathlib.Core.Path.{_≡_, sym, ap, _∙_, subst}
+use mathlib.Core.Logic.{inl, inr}
 use Prim.Native.Nat.{ℕ, zero, suc, _+_, _-_, _*_, _/_, _%_, _^_, _≤_, _<_, compare}
-use native.Mathlib.Nat.{zero-lt-suc, lt-irrefl, le-trans, le-of-eq, le-of-suc-le-suc, le-add-left, lt-of-not-le, not-le-of-lt, eq-or-lt-of-le, suc-add, add-suc, suc-mul, mul-assoc, mul-comm, mul-left-comm, mul-right-comm, mul-le-mul-right, mul-pos, mul-mod-left, lt-of-mul-lt-mul-right, pow-suc, le-div-iff-mul-le, div-lt-iff-lt-mul, div-div-eq-div-mul}
+use native.Mathlib.Nat.{eq-zero-or-pos, lt-irrefl, le-trans, le-of-eq, le-of-suc-le-suc, le-add-left, lt-of-not-le, not-le-of-lt, eq-or-lt-of-le, suc-add, add-suc, suc-mul, mul-assoc, mul-comm, mul-left-comm, mul-right-comm, mul-le-mul-right, mul-pos, mul-mod-left, lt-of-mul-lt-mul-right, pow-suc, le-div-iff-mul-le, div-lt-iff-lt-mul, div-div-eq-div-mul}
 use native.Mathlib.Omega.{arith}
 use lib.Pow.{pow-add, pow-pos, pow-mono}
 use lib.Ieee.{size}
@@ -13,10 +13,6 @@ use lib.Ieee.Order.{drop, kept}
 use Rattle.laws.specs.Within.{distance}
 use Rattle.laws.proofs.ClosestLaws.{closest-near, closest-tie}
 use Rattle.laws.proofs.ValueLaws.{size-more}
-
-pub zero-or-more : (k : ℕ) → (k ≡ 0) ⊎ (0 < k)
-zero-or-more zero = inl refl
-zero-or-more (suc k) = inr (zero-lt-suc k)
 
 -- ---- the kept number: at most 2 ^ p, and where any digits are dropped at least 2 ^ (p - 1)
 pub kept-le : (p n c : ℕ) → kept p n c ≤ 2 ^ p
@@ -41,7 +37,7 @@ kept-ge p n c P C K =
     le-trans (le-div-iff-mul-le (mul-pos C (pow-pos (drop p n c))) .1 (whole-reaches p n c P C K)) (nearest-ge (n / u) (compare (n % u * 2) u))
 
 pub kept-few : (p n c : ℕ) → 0 < p → 0 < c → kept p n c < 2 ^ (p - 1) → drop p n c ≡ 0
-kept-few p n c P C h = elim (zero-or-more (drop p n c)) [ inl z ↦ z | inr z ↦ absurd (not-le-of-lt h (kept-ge p n c P C z)) ]
+kept-few p n c P C h = elim (eq-zero-or-pos (drop p n c)) [ inl z ↦ z | inr z ↦ absurd (not-le-of-lt h (kept-ge p n c P C z)) ]
 
 -- ---- the result is below 2 ^ (p + 1 + e) up to half a step before it, a step being 2 ^ (e + 1)
 pub kept-under : (p e n c : ℕ) → 0 < c → n + 2 ^ e * c < 2 ^ (suc p + e) * c → kept p n c * 2 ^ drop p n c < 2 ^ (suc p + e)

@@ -20,7 +20,7 @@ pub mod KeptLaws
 pub mod GridLaws
 pub mod OverflowLaws
 pub mod RoundNearest
-pub mod TableLaws
+pub mod WholeRootLaws
 pub mod Examples
 pub mod JamLaws
 pub mod LeadingLaws

@@ -9,16 +9,17 @@ use native.Mathlib.Numerals.{add-one}
 use native.Mathlib.Omega.{arith}
 use lib.Dec.{T, ltb, ltb→lt, nltb→le, not-T}
 use lib.Pow.{pow-add, pow-pos, suc-ones}
-use lib.Ieee.{Float, nan, inf, fin, Format, binary32, binary64, prec, emax, low, odd, units, round, fits}
+use lib.Ieee.{Float, inf, Format, binary32, binary64, prec, emax, low, odd, units, round, fits}
 use lib.Ieee.Fits.{two, two-le-pos, round-is}
 use lib.Ieee.Bits.{cond-no}
-use lib.Ieee.Exact.{HasValue, units-val}
+use lib.Ieee.Exact.{units-val}
 use lib.Ieee.Order.{drop, kept}
 use lib.Ieee.Scale.{grid, overflow, finite}
 use Rattle.laws.specs.Exact.{sizeIn}
 use Rattle.laws.specs.RoundsTo.{limit}
 use Rattle.laws.proofs.Ring.{var, lit, _⊕_, _⊗_}
 use Rattle.laws.proofs.RingNat.{ring}
+use Rattle.laws.proofs.ValueLaws.{value-finite}
 use Rattle.laws.proofs.KeptLaws.{kept-under, kept-over}
 use Rattle.laws.proofs.SizeLaws.{size-below}
 use Rattle.laws.proofs.GridLaws.{grid-of-size}
@@ -70,11 +71,6 @@ size-under f x h t =
     not-le-of-lt (size-below f x h t) (le-trans (grid-over f (sizeIn f x) (2 ^ low f) (pow-pos (low f)) g) (le-of-eq (grid-of-size f x h t))))
 
 -- ---- the rounded value is finite, or the infinity of its sign
-pub value-finite : (x : Float) (s : Bool) (a c : ℕ) → HasValue x s a c → T (finite x)
-value-finite nan s a c h = h
-value-finite (inf t) s a c h = h
-value-finite (fin t m e) s a c h = tt
-
 units-inf : (f : Format) (s : Bool) (q k : ℕ) → overflow f ≤ q * 2 ^ k → units f s q k ≡ inf s
 unfolding units
 units-inf f s q k h =

@@ -1,15 +1,12 @@
 -- The ring solver at the integers of lib.IntN, whose missing laws of products are proved first. Assumes nothing.
 use mathlib.Core.Path.{_≡_, refl, sym, ap, _∙_}
-use mathlib.Core.Bool.{Bool, true, false}
-use mathlib.Core.List.{List, [], _∷_}
-use Prim.Native.Nat.{ℕ, zero, suc}
+use mathlib.Core.Bool.{Bool, false}
+use mathlib.Core.List.{List}
+use Prim.Native.Nat.{ℕ}
 use lib.Dec.{eqb, eqb→eq, T}
-use lib.IntN.{ℤ, pos, negsuc, one, negℤ, sucℤ, predℤ, _+ℤ_, _-ℤ_, _*ℤ_, ℤ-ind, +ℤ-idl, +ℤ-idr, +ℤ-comm, +ℤ-assoc, +ℤ-one, -ℤ-one, +ℤ-invr, +ℤ-invl, sucℤ-+ℤ, predℤ-+ℤ, sucℤ-*ℤ, predℤ-*ℤ, zero-*ℤ, *ℤ-zero, *ℤ-one, *ℤ-comm, negℤ-sucℤ, negℤ-predℤ, negℤ-+ℤ}
+use lib.IntN.{ℤ, pos, negsuc, one, negℤ, sucℤ, predℤ, _+ℤ_, _-ℤ_, _*ℤ_, ℤ-ind, +ℤ-idl, +ℤ-idr, +ℤ-comm, +ℤ-assoc, +ℤ-one, -ℤ-one, +ℤ-invr, +ℤ-invl, sucℤ-+ℤ, predℤ-+ℤ, sucℤ-*ℤ, predℤ-*ℤ, zero-*ℤ, *ℤ-zero, *ℤ-one, *ℤ-comm}
 use Rattle.laws.proofs.Ring as R
 use Rattle.laws.proofs.Ring.{Poly, Ex, Laws, at, normal, value, solve}
-
-+ℤ-left-comm : (a b c : ℤ) → a +ℤ (b +ℤ c) ≡ b +ℤ (a +ℤ c)
-+ℤ-left-comm a b c = sym (+ℤ-assoc a b c) ∙ ap (λ (x : ℤ). x +ℤ c) (+ℤ-comm a b) ∙ +ℤ-assoc b a c
 
 up : (b c m : ℤ) → (m +ℤ b) *ℤ c ≡ m *ℤ c +ℤ b *ℤ c → (sucℤ m +ℤ b) *ℤ c ≡ sucℤ m *ℤ c +ℤ b *ℤ c
 up b c m h = ap (λ (x : ℤ). x *ℤ c) (sucℤ-+ℤ m b) ∙ sucℤ-*ℤ (m +ℤ b) c ∙ ap (λ (x : ℤ). x +ℤ c) h ∙ +ℤ-assoc (m *ℤ c) (b *ℤ c) c ∙ ap (λ (x : ℤ). m *ℤ c +ℤ x) (+ℤ-comm (b *ℤ c) c) ∙ sym (+ℤ-assoc (m *ℤ c) c (b *ℤ c)) ∙ ap (λ (x : ℤ). x +ℤ b *ℤ c) (sym (sucℤ-*ℤ m c))

@@ -1,6 +1,6 @@
 -- The ring solver at the natural numbers: an equation of polynomials is proved by comparing normal forms.
 -- `ring (a ∷ b ∷ []) left right refl` proves the value of `left` equal to that of `right`, `var 0` standing for a. Assumes nothing.
-use mathlib.Core.Path.{_≡_, refl}
+use mathlib.Core.Path.{_≡_}
 use mathlib.Core.Bool.{Bool}
 use mathlib.Core.List.{List}
 use Prim.Native.Nat.{ℕ, _+_, _*_}

@@ -8,13 +8,14 @@ use native.Mathlib.Omega.{arith}
 use lib.Dec.{T, leb→le, nleb→lt, leb, ltb}
 use lib.Pow.{pow-pos, pow-add}
 use lib.Ieee.Fits.{two, two-le-pos, round-is}
-use lib.Ieee.Exact.{HasValue, odd-sign}
+use lib.Ieee.Exact.{odd-sign}
 use lib.Ieee.{Float, inf, Format, binary32, binary64, prec, emax, low, size, odd, units, round}
 use lib.Ieee.Digits.{size-reaches}
 use lib.Ieee.Order.{drop, kept}
 use lib.Ieee.Scale.{grid, finite}
 use Rattle.laws.specs.Within.{Within}
 use Rattle.laws.proofs.ClosestLaws.{closest-near}
+use Rattle.laws.proofs.ValueLaws.{Value}
 
 -- ---- in units of the smallest value, n / c rounds to grid, within half of 2 ^ drop units
 pub grid-near : (f : Format) (a c : ℕ) → 0 < c → Within (grid f a c * c * 2) (a * 2 ^ low f * 2) (c * 2 ^ drop (prec f) (a * 2 ^ low f) c)
@@ -69,7 +70,7 @@ round-relative f a c C N =
     (subst (λ (x : ℕ). Within (grid f a c * c * 2 * 2 ^ p) x (n * 2)) (mul-right-comm n 2 (2 ^ p)) l))
 
 -- below it, at most half the smallest value
-pub round-absolute : (f : Format) (a c : ℕ) → 0 < c → size (a * 2 ^ low f / c) ≤ prec f → Within (grid f a c * c * 2) (a * 2 ^ low f * 2) c
+round-absolute : (f : Format) (a c : ℕ) → 0 < c → size (a * 2 ^ low f / c) ≤ prec f → Within (grid f a c * c * 2) (a * 2 ^ low f * 2) c
 round-absolute f a c C N =
     let n = a * 2 ^ low f in
     subst (λ (x : ℕ). Within (grid f a c * c * 2) (n * 2) x) (ap (λ (k : ℕ). c * 2 ^ k) (none (size (n / c)) (prec f) N) ∙ mul-one c) (grid-near f a c C)
@@ -102,15 +103,15 @@ round-error f a c C = go (leb (prec f) (size (n / c))) (leb→le (prec f) (size 
         (scaled (grid f a c * c * 2) (a * 2 ^ low f * 2) c (2 ^ (prec f - 1)) (round-absolute f a c C (le-of-lt (k tt))))))
 
 -- ---- the rounded value itself, of either sign
-finite-units : (f : Format) (s : Bool) (q k : ℕ) → T (finite (units f s q k)) → HasValue (units f s q k) s (q * 2 ^ k) (2 ^ low f)
+finite-units : (f : Format) (s : Bool) (q k : ℕ) → T (finite (units f s q k)) → Value f (units f s q k) s (q * 2 ^ k)
 unfolding units
 finite-units f s q k = at (ltb (q * 2 ^ k) (2 ^ (low f + suc (emax f))))
   where
-    at : (b : Bool) → T (finite (cond b (odd (suc (prec f)) s q k (low f)) (inf s))) → HasValue (cond b (odd (suc (prec f)) s q k (low f)) (inf s)) s (q * 2 ^ k) (2 ^ low f)
+    at : (b : Bool) → T (finite (cond b (odd (suc (prec f)) s q k (low f)) (inf s))) → Value f (cond b (odd (suc (prec f)) s q k (low f)) (inf s)) s (q * 2 ^ k)
     at true t = odd-sign (suc (prec f)) s q k (low f)
     at false t = absurd t
 
-pub finite-round : (f : Format) (s : Bool) (a c : ℕ) → T (finite (round f s a c)) → HasValue (round f s a c) s (grid f a c) (2 ^ low f)
+pub finite-round : (f : Format) (s : Bool) (a c : ℕ) → T (finite (round f s a c)) → Value f (round f s a c) s (grid f a c)
 finite-round f s a c t =
-    subst (λ (x : Float). HasValue x s (grid f a c) (2 ^ low f)) (sym (round-is f s a c))
+    subst (λ (x : Float). Value f x s (grid f a c)) (sym (round-is f s a c))
     (finite-units f s (kept (prec f) (a * 2 ^ low f) c) (drop (prec f) (a * 2 ^ low f) c) (subst (λ (x : Float). T (finite x)) (round-is f s a c) t))

@@ -1,10 +1,10 @@
 -- Whole numbers by sign and size: their sums and products, and that both are told by the number. Assumes nothing.
-use mathlib.Core.Path.{_≡_, refl, sym, ap, ap₂, _∙_}
+use mathlib.Core.Path.{_≡_, refl, sym, ap, _∙_}
 use mathlib.Core.Bool.{Bool, true, false, not}
 use mathlib.Core.List.{[], _∷_}
 use Prim.Native.Nat.{ℕ, zero, suc, _+_, _-_, _*_, _≤_, _<_}
 use native.Mathlib.Omega.{arith}
-use lib.IntN.{ℤ, pos, negsuc, negℤ, natAbs, _+ℤ_, _*ℤ_, pos-+ℤ-pos, pos-*ℤ-pos, negℤ-+ℤ, pos-ne-negsuc}
+use lib.IntN.{ℤ, pos, negℤ, natAbs, _+ℤ_, _*ℤ_, pos-+ℤ-pos, pos-*ℤ-pos, negℤ-+ℤ, pos-ne-negsuc}
 use lib.Ieee.{unlike}
 use Rattle.laws.specs.Exact.{signed}
 use Rattle.laws.proofs.RingInt.{var, _⊕_, _⊗_, ⊖_, ringℤ}

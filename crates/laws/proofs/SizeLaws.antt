@@ -10,13 +10,12 @@ use lib.Pow.{pow-add, pow-pos, pow-mono, pow-lt, shl-lt}
 use lib.Ieee.{Float, nan, inf, fin, Format, prec, emax, low, up, down, fits}
 use lib.Ieee.Digits.{back}
 use lib.Ieee.Fits.{two, two-le-pos, and-l, and-r, down-pos}
-use lib.Ieee.Exact.{HasValue}
 use lib.Ieee.Scale.{overflow, finite}
 use Rattle.laws.specs.Exact.{negative, sizeIn}
-use Rattle.laws.proofs.ValueLaws.{value-unique}
+use Rattle.laws.proofs.ValueLaws.{Value, value-unique}
 
 -- ---- N smallest values have the size N
-pub size-of-value : (f : Format) (x : Float) (s : Bool) (N : ℕ) → HasValue x s N (2 ^ low f) → (sizeIn f x ≡ N) × (negative x ≡ s)
+pub size-of-value : (f : Format) (x : Float) (s : Bool) (N : ℕ) → Value f x s N → (sizeIn f x ≡ N) × (negative x ≡ s)
 unfolding sizeIn negative
 size-of-value f nan s N h = absurd h
 size-of-value f (inf t) s N h = absurd h
@@ -43,7 +42,7 @@ pub record Digits (f : Format) (x : Float) : Type 0 where
   pub kept : ℕ
   pub zeros : ℕ
   pub few : kept < 2 ^ prec f
-  pub value : HasValue x (negative x) (kept * 2 ^ zeros) (2 ^ low f)
+  pub value : Value f x (negative x) (kept * 2 ^ zeros)
   pub below : kept * 2 ^ zeros < overflow f
 
 pub digits : (f : Format) (x : Float) → T (fits f x) → T (finite x) → Digits f x
@@ -83,10 +82,10 @@ digits f (fin s (suc m) e) h t =
         lt-of-mul-lt-mul-right d (subst₂ (λ (x y : ℕ). x < y) v g (mul-lt-mul-of-pos-right h L))
 
 -- so a finite value is its size in smallest values
-pub value-of-size : (f : Format) (x : Float) → T (fits f x) → T (finite x) → HasValue x (negative x) (sizeIn f x) (2 ^ low f)
+pub value-of-size : (f : Format) (x : Float) → T (fits f x) → T (finite x) → Value f x (negative x) (sizeIn f x)
 value-of-size f x h t =
     let d = digits f x h t in
-    subst (λ (N : ℕ). HasValue x (negative x) N (2 ^ low f)) (sym (size-of-value f x (negative x) (d .kept * 2 ^ d .zeros) (d .value) .0)) (d .value)
+    subst (λ (N : ℕ). Value f x (negative x) N) (sym (size-of-value f x (negative x) (d .kept * 2 ^ d .zeros) (d .value) .0)) (d .value)
 
 pub size-below : (f : Format) (x : Float) → T (fits f x) → T (finite x) → sizeIn f x < overflow f
 size-below f x h t =
@@ -97,7 +96,7 @@ size-below f x h t =
 pub size-unique : (f : Format) (x y : Float) → T (fits f x) → T (fits f y) → T (finite x) → T (finite y) → negative x ≡ negative y → sizeIn f x ≡ sizeIn f y → x ≡ y
 size-unique f x y h k t u e d =
     value-unique f x y (negative x) (sizeIn f x) h k (value-of-size f x h t)
-    (subst₂ (λ (b : Bool) (N : ℕ). HasValue y b N (2 ^ low f)) (sym e) (sym d) (value-of-size f y k u))
+    (subst₂ (λ (b : Bool) (N : ℕ). Value f y b N) (sym e) (sym d) (value-of-size f y k u))
 
 -- a large size is a multiple of a large power of two
 pub coarse : (f : Format) (x : Float) (j : ℕ) → T (fits f x) → T (finite x) → 2 ^ (prec f - 1 + j) ≤ sizeIn f x → (w : ℕ) × (sizeIn f x ≡ w * 2 ^ j)

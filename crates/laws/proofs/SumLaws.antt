@@ -5,7 +5,7 @@ use Prim.Native.Nat.{ℕ, zero, suc, _+_, _-_, _<_, _≤_}
 use native.Mathlib.Nat.{le-of-lt}
 use native.Mathlib.Omega.{arith}
 use lib.Dec.{T, ltb, ltb→lt, nltb→le}
-use lib.IntN.{ℤ, pos, _+ℤ_, +ℤ-comm, natAbs}
+use lib.IntN.{ℤ, pos, _+ℤ_, +ℤ-comm}
 use lib.Ieee.{Float, Format, round, sum}
 use Rattle.laws.specs.Exact.{signed}
 use Rattle.laws.proofs.SignedLaws.{signed-add, signed-sub, signed-unique}

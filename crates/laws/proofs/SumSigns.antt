@@ -23,11 +23,15 @@ and-false : (s : Bool) → s && false ≡ false
 and-false true = refl
 and-false false = refl
 
-unlike-comm : (s t : Bool) → unlike s t ≡ unlike t s
+pub unlike-comm : (s t : Bool) → unlike s t ≡ unlike t s
 unlike-comm true true = refl
 unlike-comm true false = refl
 unlike-comm false true = refl
 unlike-comm false false = refl
+
+pub unlike-self : (s : Bool) → unlike s s ≡ false
+unlike-self true = refl
+unlike-self false = refl
 
 like-same : (s t : Bool) → unlike s t ≡ false → s ≡ t
 like-same true true h = refl

@@ -1,22 +1,33 @@
 -- A value of a format is told by its sign and its count of smallest values: its bit pattern, and so the value itself. Assumes nothing.
 use mathlib.Core.Path.{_≡_, refl, sym, ap, _∙_, subst}
 use mathlib.Core.Bool.{Bool, true, false, not, cond}
-use Prim.Native.Nat.{ℕ, zero, suc, _+_, _-_, _*_, _/_, _%_, _^_, _≤_, _<_}
-use native.Mathlib.Nat.{le-refl, le-trans, le-of-eq, le-of-lt, lt-of-lt-of-le, lt-of-le-of-lt, le-antisymm, lt-of-not-le, not-le-of-lt, mul-one, suc-add, add-mul, mul-comm, mul-assoc, mul-div-cancel, mul-lt-mul-of-pos-right, mul-le-mul-right}
+use Prim.Native.Nat.{ℕ, suc, _+_, _-_, _*_, _/_, _^_, _≤_, _<_}
+use native.Mathlib.Nat.{le-refl, le-trans, le-of-eq, lt-of-lt-of-le, lt-of-le-of-lt, le-antisymm, lt-of-not-le, not-le-of-lt, mul-one, suc-add, add-mul, mul-assoc, mul-div-cancel, mul-lt-mul-of-pos-right, mul-le-mul-right}
 use native.Mathlib.Omega.{arith}
-use lib.Dec.{T, leb, ltb, eqb, lit≤, lit<, ltb→lt, nltb→le, lt→ltb}
+use lib.Dec.{T, ltb, lit<, ltb→lt, nltb→le, lt→ltb}
 use lib.Pow.{pow-pos, pow-add, pow-mono, pow-lt, shl-shr}
-use lib.Ieee.{Float, nan, inf, fin, Format, binary32, binary64, prec, emax, low, up, down, hid, top, ones, size, odd, units, round, fits, toBits, ofBits}
-use lib.Ieee.Digits.{size-lt, size-le, size-reaches}
-use lib.Ieee.Exact.{HasValue, odd-sign, units-val}
-use lib.Ieee.Fits.{down-pos, odd-fits, round-fits}
+use lib.Ieee.{Float, nan, inf, fin, Format, binary32, binary64, prec, emax, low, up, down, hid, top, size, odd, units, fits, toBits, ofBits}
+use lib.Ieee.Digits.{size-lt, size-le}
+use lib.Ieee.Exact.{HasValue, units-val}
+use lib.Ieee.Fits.{down-pos, odd-fits}
 use lib.Ieee.Bits.{ofBits-toBits}
+use lib.Ieee.Scale.{finite}
+
+-- x is ±N of the format's smallest values
+abbrev pub Value : Format → Float → Bool → ℕ → Type 0
+Value f x s N = HasValue x s N (2 ^ low f)
+
+-- what is a fraction is finite
+pub value-finite : (x : Float) (s : Bool) (a c : ℕ) → HasValue x s a c → T (finite x)
+value-finite nan s a c h = absurd h
+value-finite (inf t) s a c h = absurd h
+value-finite (fin t m e) s a c h = tt
 
 -- ---- the bit pattern of a count N
 abbrev pub pattern : Format → Bool → ℕ → ℕ
 pattern f s N = cond s (top f) 0 + (size N - prec f) * hid f + N / 2 ^ (size N - prec f)
 
-pub toBits-value : (f : Format) (v : Float) (s : Bool) (N : ℕ) → HasValue v s N (2 ^ low f) → toBits f v ≡ pattern f s N
+pub toBits-value : (f : Format) (v : Float) (s : Bool) (N : ℕ) → Value f v s N → toBits f v ≡ pattern f s N
 unfolding toBits
 toBits-value f nan s N h = absurd h
 toBits-value f (inf t) s N h = absurd h
@@ -24,7 +35,7 @@ toBits-value f (fin t m e) s N h =
     ap (λ (b : Bool). pattern f b (m * up e * 2 ^ low f / down e)) (h .0)
     ∙ ap (λ (n : ℕ). pattern f s n) (ap (λ (n : ℕ). n / down e) (h .1) ∙ mul-div-cancel N (down-pos e))
 
-pub value-unique : (f : Format) (x y : Float) (s : Bool) (N : ℕ) → T (fits f x) → T (fits f y) → HasValue x s N (2 ^ low f) → HasValue y s N (2 ^ low f) → x ≡ y
+pub value-unique : (f : Format) (x y : Float) (s : Bool) (N : ℕ) → T (fits f x) → T (fits f y) → Value f x s N → Value f y s N → x ≡ y
 value-unique f x y s N p q h k =
     sym (ofBits-toBits f x p) ∙ ap (ofBits f) (toBits-value f x s N h ∙ sym (toBits-value f y s N k)) ∙ ofBits-toBits f y q
 

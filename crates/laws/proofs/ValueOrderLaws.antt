@@ -1,19 +1,20 @@
 -- Comparisons of finite values are those of their signs and sizes, over any common denominator c. Assumes nothing.
 use mathlib.Core.Path.{_≡_, refl, sym, ap, ap₂, _∙_, subst}
 use mathlib.Core.Logic.{_⊎_, inl, inr}
-use mathlib.Core.Bool.{Bool, true, false, Bool·beq, _&&_, _||_}
+use mathlib.Core.Bool.{Bool, true, false, not, Bool·beq, _&&_, _||_}
 use Prim.Native.Nat.{ℕ, _+_, _*_, _≤_, _<_}
-use native.Mathlib.Nat.{le-of-eq, le-of-lt, zero-mul, add-mul, mul-comm, mul-assoc, mul-right-comm, mul-pos, eq-of-mul-eq-mul-right}
+use native.Mathlib.Nat.{le-of-eq, le-of-lt, not-le-of-lt, mul-le-mul-right, zero-mul, add-mul, mul-comm, mul-assoc, mul-right-comm, mul-pos, eq-of-mul-eq-mul-right}
 use native.Mathlib.Omega.{arith}
-use lib.Dec.{T, ltb, eqb, ltb→lt, lt→ltb, eqb→eq}
+use lib.Dec.{T, ltb, eqb, ltb→lt, nltb→le, lt→ltb, eqb→eq, not-T}
 use lib.Ieee.{Float, nan, inf, fin, up, down, below, level, lt, eq, le}
 use lib.Ieee.Fits.{down-pos, and-l, and-r, eq→eqb}
 use lib.Ieee.Exact.{HasValue}
+use lib.Ieee.Order.{le-of-values}
 use Rattle.laws.proofs.SumSame.{order-scale}
 use Rattle.laws.proofs.RoundedOperations.{minus}
 
 -- two tests that pass together are one
-pub same-bool : (p q : Bool) → (T p → T q) → (T q → T p) → p ≡ q
+same-bool : (p q : Bool) → (T p → T q) → (T q → T p) → p ≡ q
 same-bool true true f g = refl
 same-bool true false f g = absurd (f tt)
 same-bool false true f g = absurd (g tt)
@@ -86,6 +87,16 @@ le-sizes x y a b c C h k t =
       | inl u ↦ le-of-lt (ltb→lt a b u)
       | inr u ↦ le-of-eq (eqb→eq a b (and-l (eqb a b) true u))
     ]
+
+pub le-of-sizes : (x y : Float) (a b c : ℕ) → 0 < c → HasValue x false a c → HasValue y false b c → a ≤ b → T (le x y)
+le-of-sizes x y a b c C h k l = le-of-values x y a c b c C C h k (mul-le-mul-right c l)
+
+-- x is not below y, neither below zero
+pub not-lt-sizes : (x y : Float) (a b c : ℕ) → 0 < c → HasValue x false a c → HasValue y false b c → T (not (lt x y)) → b ≤ a
+not-lt-sizes x y a b c C h k t = nltb→le a b (subst (λ (p : Bool). T (not p)) (lt-is x y false false a b c C h k) t)
+
+pub not-lt-of-sizes : (x y : Float) (a b c : ℕ) → 0 < c → HasValue x false a c → HasValue y false b c → b ≤ a → T (not (lt x y))
+not-lt-of-sizes x y a b c C h k l = subst (λ (p : Bool). T (not p)) (sym (lt-is x y false false a b c C h k)) (not-T (ltb a b) (λ (t : T (ltb a b)). not-le-of-lt (ltb→lt a b t) l))
 
 -- 0 ≤ x: no negative part
 pub not-below-zero : (x z : Float) (s : Bool) (n c : ℕ) → 0 < c → HasValue z false 0 c → HasValue x s n c → T (le z x) → minus s n ≡ 0

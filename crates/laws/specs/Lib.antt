@@ -2,3 +2,4 @@ pub mod Within
 pub mod Exact
 pub mod RoundsTo
 pub mod Jam
+pub mod WholeRoot

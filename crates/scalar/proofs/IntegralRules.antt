@@ -172,9 +172,6 @@ round-added q d h p l = added q d (d - 1) h p l (less d)
 pub plain-sum : (q x u : ℕ) → Added q u x → (q + (x - 1)) / u ≤ 16777216
 plain-sum q x u a = subst (λ (n : ℕ). n / u ≤ 16777216) (add-zero (q + (x - 1))) (a .small 0 (lit≤ tt))
 
-pub bit-most : (n : ℕ) → n % 2 ≤ 1
-bit-most n = omega arith
-
 pub floor-word : (q d : ℕ) → d ≤ 25 → (q + (1 * 2 ^ d % 4294967296 - 1)) / 2 ^ d ≡ lower true q (2 ^ d)
 floor-word q d h = ap (λ (n : ℕ). (q + (n - 1)) / 2 ^ d) (one-up d h) ∙ ceiling q (2 ^ d) (pow-pos d)
 

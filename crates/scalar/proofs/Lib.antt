@@ -3,9 +3,6 @@ pub mod PackLaws
 pub mod PartsLaws
 pub mod SignLaws
 pub mod BitSignLaws
-pub mod WholeRootLaws
-pub mod FirstRoots
-pub mod PackedBytes
 pub mod NewtonLaws
 pub mod RootLaws
 pub mod RootPartsLaws

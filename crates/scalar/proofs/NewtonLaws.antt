@@ -9,9 +9,9 @@ use lib.Dec.{lit<}
 use Rattle.laws.proofs.Ring.{var, lit, _⊕_, _⊗_}
 use Rattle.laws.proofs.RingNat.{ring}
 use Rattle.laws.proofs.Certificates.{cert, by, done, square}
-use Rattle.scalar.specs.Root.{WholeRoot, wholeRoot}
+use Rattle.laws.specs.WholeRoot.{WholeRoot, wholeRoot}
 use Rattle.scalar.specs.RootParts.{AboveRoot}
-use Rattle.scalar.proofs.WholeRootLaws.{le-of-lt-next, root-lt, root-le, root-ge, next-square, whole-root-is}
+use Rattle.laws.proofs.WholeRootLaws.{le-of-lt-next, root-lt, root-le, root-ge, next-square, whole-root-is}
 
 -- ---- a product is at most the square of the mean
 mean-square : (a b s : ℕ) → a + b ≤ 2 * s → a * b ≤ s * s

@@ -15,9 +15,10 @@ use Rattle.laws.proofs.Ring.{var, lit, _⊕_, _⊗_}
 use Rattle.laws.proofs.RingNat.{ring}
 use Rattle.laws.proofs.ClosestLaws.{closest-is}
 use Rattle.laws.proofs.ValueLaws.{size-is}
-use Rattle.scalar.specs.Root.{WholeRoot, wholeRoot, twiceRoot}
+use Rattle.laws.specs.WholeRoot.{WholeRoot, wholeRoot}
+use Rattle.scalar.specs.Root.{twiceRoot}
 use Rattle.scalar.specs.RootParts.{NearRoot}
-use Rattle.scalar.proofs.WholeRootLaws.{square-lt, root-lt, root-ge, next-square, odd-square, whole-root-is}
+use Rattle.laws.proofs.WholeRootLaws.{square-lt, root-lt, root-ge, next-square, odd-square, whole-root-is}
 
 -- ---- twice the root, and one more where R is not all of it
 abbrev twice : ℕ → ℕ → ℕ

@@ -19,7 +19,7 @@ use Rattle.laws.proofs.SizeLaws.{Digits, digits, size-of-value, coarse}
 use Rattle.scalar.specs.Root.{root, rootUnits}
 use Rattle.scalar.specs.RootParts.{NearRoot, Shift}
 use Rattle.scalar.specs.RootMeaning.{NearestRoot, radicand}
-use Rattle.scalar.proofs.WholeRootLaws.{square-mono}
+use Rattle.laws.proofs.WholeRootLaws.{square-mono}
 use Rattle.scalar.proofs.RootLaws.{scaled-le, scaled-lt, scaled-gt, half-below}
 use Rattle.scalar.proofs.RootPartsLaws.{half, shift-is, nearest-root, radicand-is, root-units, units-fit}
 use Rattle.scalar.proofs.RootCases.{root-value}

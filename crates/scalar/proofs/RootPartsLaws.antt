@@ -10,9 +10,10 @@ use lib.Pow.{pow-pos, pow-add, pow-mono, shl-lt}
 use lib.Count.{leadingZeros, leading-top}
 use lib.Ieee.{binary32, units, fits}
 use lib.Ieee.Fits.{round-fits}
-use Rattle.scalar.specs.Root.{WholeRoot, wholeRoot, twiceRoot, rootUnits}
+use Rattle.laws.specs.WholeRoot.{WholeRoot, wholeRoot}
+use Rattle.scalar.specs.Root.{twiceRoot, rootUnits}
 use Rattle.scalar.specs.RootParts.{Positive, Shift, NearRoot}
-use Rattle.scalar.proofs.WholeRootLaws.{root-lt, root-ge, next-square, odd-square, whole-root-is}
+use Rattle.laws.proofs.WholeRootLaws.{root-lt, root-ge, next-square, odd-square, whole-root-is}
 use Rattle.scalar.proofs.RootLaws.{root-rounded}
 
 -- ---- the shift: q has j + 1 digits, and 31 - j zeros before them in 32

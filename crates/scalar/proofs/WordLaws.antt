@@ -52,6 +52,12 @@ closest-most w g h l =
     wide : (g : ℕ) → 39 ≤ g → 63 ≤ 24 + g
     wide g h = omega arith
 
+pub quotient-fits : (x g : ℕ) → x < 2 ^ 64 → 39 ≤ g → x / 2 ^ g < 2 ^ 32
+quotient-fits x g h l = div-lt-iff-lt-mul (pow-pos g) .1 (lt-of-lt-of-le h (le-trans (pow-mono (wide g l)) (le-of-eq (pow-add 2 32 g))))
+  where
+    wide : (g : ℕ) → 39 ≤ g → 64 ≤ 32 + g
+    wide g h = omega arith
+
 -- ---- v moved up, in either way
 module _ (v : ℕ) (P : 0 < v) (W : v < 2 ^ 64) where
   lifted : (w : ℕ) → w ≡ jam (v * 2 ^ leadingZeros 64 v) 2 → Lifted v w

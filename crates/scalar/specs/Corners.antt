@@ -3,8 +3,9 @@ use mathlib.Core.Path.{_≡_, refl}
 use Prim.Native.Nat.{ℕ}
 use lib.Ieee.{Float, binary32, ofBits, round, sum, add, sub, mul, div, rem, lt}
 use Rattle.laws.specs.Exact.{sizeIn}
+use Rattle.laws.specs.WholeRoot.{wholeRoot}
 use Rattle.scalar.specs.Sign.{abs}
-use Rattle.scalar.specs.Root.{root, rootUnits, wholeRoot}
+use Rattle.scalar.specs.Root.{root, rootUnits}
 use Rattle.scalar.specs.Integral.{integral, roundEven}
 use Rattle.scalar.specs.Euclid.{divEuclid, remEuclid}
 use Rattle.scalar.specs.Fused.{mulAdd}

@@ -1,8 +1,7 @@
 -- What the functions of the root promise each other.
-use mathlib.Core.List.{List, [], _∷_}
 use mathlib.Core.Path.{_≡_}
 use Prim.Native.Nat.{ℕ, _+_, _-_, _*_, _%_, _^_, _≤_, _<_}
-use Rattle.scalar.specs.Root.{WholeRoot}
+use Rattle.laws.specs.WholeRoot.{WholeRoot}
 
 -- a significand above zero and its count of digits
 pub record Positive (q k : ℕ) : Type 0 where
@@ -31,12 +30,3 @@ pub record AboveRoot (n c x : ℕ) : Type 0 where
   pub is : WholeRoot n root
   pub least : root ≤ x
   pub most : x ≤ root + c
-
--- bytes in a word, the first in the lowest digits
-abbrev pub inWord : List ℕ → ℕ
-inWord [] = 0
-inWord (b ∷ bs) = inWord bs * 256 + b
-
-abbrev pub Bytes : List ℕ → Type 0
-Bytes [] = Unit {0}
-Bytes (b ∷ bs) = (b < 256) × Bytes bs

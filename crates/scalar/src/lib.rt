@@ -2,7 +2,6 @@
 pub mod acos;
 pub mod bits;
 pub mod euclid;
-mod first_roots;
 pub mod fused;
 pub mod integral;
 pub mod root;

@@ -3,12 +3,12 @@ ghost use mathlib.Core.Path.{_≡_};
 ghost use Prim.Native.Nat.{_+_, _*_, _/_, _^_, _≤_, _<_};
 ghost use lib.Ieee as Ieee;
 ghost use Rattle.scalar.specs.Root as Root;
-ghost use Rattle.scalar.specs.Root.{WholeRoot};
+ghost use Rattle.laws.specs.WholeRoot.{WholeRoot};
 ghost use Rattle.scalar.specs.RootParts.{Positive, Shift, NearRoot, AboveRoot};
 use crate::bits::Parts;
 use crate::bits::decode;
 use crate::bits::pack;
-use crate::first_roots::first_root;
+use roots::first_roots::first_root;
 
 // The rounded root. Most arguments are positive and of 24 digits; they are told by one comparison of bits.
 pub fn sqrt(x: f32) -> f32

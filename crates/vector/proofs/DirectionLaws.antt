@@ -12,6 +12,7 @@ use lib.Ieee.Positive.{positive-of-value, values-of-le}
 use lib.Ieee.Scale.{finite}
 use Rattle.laws.specs.Exact.{sizeIn}
 use Rattle.laws.specs.Within.{distance, Within}
+use Rattle.laws.proofs.ValueLaws.{Value}
 use Rattle.laws.proofs.RoundingError.{looser}
 use Rattle.laws.proofs.FiniteLaws.{minuend-finite}
 use Rattle.laws.proofs.ErrorLaws.{rounded, finite-rounded, rounded-whole}
@@ -24,8 +25,8 @@ use Rattle.vector.specs.Products.{lengthSquared}
 use Rattle.vector.specs.ExactVectors.{F32Vec, UnitWithin, Direction, exactSquare}
 use Rattle.vector.specs.NumericLaws.{ComputedNear}
 use Rattle.vector.proofs.SquaredLengthBounds.{Q, RoundsWhole, any-low, any-high}
-use Rattle.vector.proofs.SquaredLengthErrors.{Value, squared-value, components-finite, length-parts}
-use Rattle.vector.proofs.ReciprocalErrors.{one-value}
+use Rattle.vector.proofs.SquaredLengthErrors.{squared-value, components-finite, length-parts}
+use Rattle.vector.proofs.SignedVectors.{D, E, one-is}
 
 -- ---- over plain numbers: D = 2 ^ 24 E is the size of 1, L a computed squared length within c E of D, S the exact one
 exact-high : (D E c L S : ℕ) → D ≡ Q * E → c ≤ 5000 → 64 ≤ E → Q * S ≤ (Q + 4) * (L * D) + 2 * Q * D → L ≤ D + c * E → S ≤ D * D + (c + 5) * (E * D)
@@ -45,7 +46,7 @@ exact-low D E c L S e h g a b =
     under h = omega arith
 
 -- ---- a computed squared length within c times 2^-24 of 1 is within c + 5 exactly
-pub exact-near : (c : ℕ) → c ≤ 5000 → (a : Vec3) → F32Vec a → ComputedNear c a → UnitWithin (c + 5) a
+exact-near : (c : ℕ) → c ≤ 5000 → (a : Vec3) → F32Vec a → ComputedNear c a → UnitWithin (c + 5) a
 exact-near c h a v w =
     let X = sizeIn binary32 (a .x) in
     let Y = sizeIn binary32 (a .y) in
@@ -55,23 +56,19 @@ exact-near c h a v w =
       values = v;
       numbers = components-finite a (w .0);
       near = (
-        exact-high (2 ^ 149) (2 ^ 125) c L (exactSquare a) refl h (lit≤ tt) (any-high (2 ^ 149) X Y Z L (length-parts a v (w .0))) (w .1 .0),
-        exact-low (2 ^ 149) (2 ^ 125) c L (exactSquare a) refl h (lit≤ tt) (any-low (2 ^ 149) X Y Z L (length-parts a v (w .0))) (w .1 .1),
+        exact-high D E c L (exactSquare a) refl h (lit≤ tt) (any-high D X Y Z L (length-parts a v (w .0))) (w .1 .0),
+        exact-low D E c L (exactSquare a) refl h (lit≤ tt) (any-low D X Y Z L (length-parts a v (w .0))) (w .1 .1),
       );
     }
 
 wider : (c d : ℕ) → c * 2 ^ 274 ≤ d * 2 ^ 274 → (a : Vec3) → UnitWithin c a → UnitWithin d a
 wider c d h a u = record { values = u .values; numbers = u .numbers; near = looser (exactSquare a) (2 ^ 298) (c * 2 ^ 274) (d * 2 ^ 274) h (u .near) }
 
--- 2^-19 is 32 times 2^-24
-pub direction-if-near : (a : Vec3) → F32Vec a → ComputedNear 32 a → Direction a
-direction-if-near a v w = wider 37 64 (lit≤ tt) a (exact-near 32 (lit≤ tt) a v w)
-
--- ---- the same by a test in f32
+-- ---- by a test in f32: 2^-19 is 32 times 2^-24
 abbrev small : Float
 small = ofBits binary32 0x36000000
 
-small-value : Value small false (32 * 2 ^ 125)
+small-value : Value binary32 small false (32 * E)
 unfolding ofBits
 small-value = (refl, refl)
 
@@ -81,10 +78,10 @@ bounded-finite nan t = t
 bounded-finite (inf s) t = t
 bounded-finite (fin s m e) t = tt
 
-at-most : (x y : Float) (m n : ℕ) → Value x false m → Value y false n → 0 < n → T (le x y) → m ≤ n
+at-most : (x y : Float) (m n : ℕ) → Value binary32 x false m → Value binary32 y false n → 0 < n → T (le x y) → m ≤ n
 at-most x y m n h k p t = elim (eq-zero-or-pos m) [
   | inl z ↦ subst (λ (i : ℕ). i ≤ n) (sym z) zero-le
-  | inr q ↦ le-of-mul-le-mul-right (values-of-le x y m (2 ^ 149) n (2 ^ 149) (positive-of-value x m (2 ^ 149) h q) (positive-of-value y n (2 ^ 149) k p) h k t) (pow-pos 149)
+  | inr q ↦ le-of-mul-le-mul-right (values-of-le x y m D n D (positive-of-value x m D h q) (positive-of-value y n D k p) h k t) (pow-pos 149)
 ]
 
 -- what rounds to at most 32 e is at most 33 e
@@ -104,16 +101,16 @@ direction-if-tested a v t = wider 38 64 (lit≤ tt) a (exact-near 33 (lit≤ tt)
     number = minuend-finite binary32 (lengthSquared a) one difference-finite
 
     n : ℕ
-    n = rounded binary32 (distance L (2 ^ 149)) 1
+    n = rounded binary32 (distance L D) 1
 
-    value : Value (abs (sub binary32 (lengthSquared a) one)) false n
+    value : Value binary32 (abs (sub binary32 (lengthSquared a) one)) false n
     value =
-        let d = difference-at binary32 (lengthSquared a) one L (2 ^ 149) (squared-value a number) one-value in
-        abs-value (sub binary32 (lengthSquared a) one) (d .0) n (2 ^ 149) (finite-rounded binary32 (sub binary32 (lengthSquared a) one) (d .0) (distance L (2 ^ 149)) 1 (d .1) difference-finite)
+        let d = difference-at binary32 (lengthSquared a) one L D (squared-value a number) one-is in
+        abs-value (sub binary32 (lengthSquared a) one) (d .0) n D (finite-rounded binary32 (sub binary32 (lengthSquared a) one) (d .0) (distance L D) 1 (d .1) difference-finite)
 
-    near : Within L (2 ^ 149) (33 * 2 ^ 125)
+    near : Within L D (33 * E)
     near =
-        looser L (2 ^ 149) (distance L (2 ^ 149)) (33 * 2 ^ 125)
-        (before-rounding (distance L (2 ^ 149)) n (2 ^ 125) (rounded-whole binary32 (distance L (2 ^ 149)))
-        (at-most (abs (sub binary32 (lengthSquared a) one)) small n (32 * 2 ^ 125) value small-value (lit< tt) t) (lit≤ tt))
-        (distance-within L (2 ^ 149))
+        looser L D (distance L D) (33 * E)
+        (before-rounding (distance L D) n E (rounded-whole binary32 (distance L D))
+        (at-most (abs (sub binary32 (lengthSquared a) one)) small n (32 * E) value small-value (lit< tt) t) (lit≤ tt))
+        (distance-within L D)

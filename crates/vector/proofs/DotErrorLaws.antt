@@ -1,28 +1,29 @@
 -- The computed dot product of two vectors of lengths near 1 is within 5 errors of the exact one. Assumes nothing.
-use mathlib.Core.Path.{_≡_, refl, sym, ap₂, subst}
+use mathlib.Core.Path.{refl, sym}
 use mathlib.Core.List.{[], _∷_}
 use mathlib.Core.Bool.{Bool, true, false}
 use Prim.Native.Nat.{ℕ, _+_, _*_, _≤_, _<_}
-use native.Mathlib.Nat.{le-trans, le-of-eq, add-mul, zero-mul, mul-assoc, mul-pos, mul-le-mul-right, le-of-mul-le-mul-right}
+use native.Mathlib.Nat.{le-trans, le-of-eq, add-mul, zero-mul, mul-assoc, mul-le-mul-right, le-of-mul-le-mul-right}
 use native.Mathlib.Omega.{arith}
 use lib.Dec.{lit≤}
 use lib.Pow.{pow-pos}
 use lib.Ieee.{Float, binary32, unlike, add, mul}
+use Rattle.laws.proofs.ValueLaws.{Value}
 use Rattle.laws.proofs.Ring.{var, lit, _⊕_, _⊗_}
 use Rattle.laws.proofs.RingNat.{ring}
 use Rattle.laws.specs.Within.{Within}
 use Rattle.laws.proofs.RoundedOperations.{plus, minus, Sized, Signed, mul-near, add-near}
 use Rattle.vector.proofs.PairNumbers.{twice-product}
-use Rattle.vector.proofs.DotSumCertificates.{two-sum, three-sum, sum-size, dot-sum}
-use Rattle.vector.proofs.SignedVectors.{D, E, Num, Exact, Reads, norm, above, under, Norm, sides, size-of-sum}
+use Rattle.vector.proofs.DotSums.{two-sum, three-sum, sum-size, dot-sum}
+use Rattle.vector.proofs.SignedVectors.{D, E, Exact, Reads, above, under, Norm, sides, size-of-sum}
 use Rattle.vector.specs.declared.vec3.Vec3.{Vec3}
-use Rattle.vector.specs.Products.{dot, lengthSquared}
+use Rattle.vector.specs.Products.{dot}
 
 -- v is the dot product of a and b, whose squared lengths are within c errors of 1
 pub record Dotted (a b : Exact) (v : Float) (c : ℕ) : Type 0 where
   pub sign : Bool
   pub size : ℕ
-  pub has : Num v sign size
+  pub has : Value binary32 v sign size
   pub near : Within (plus sign size * D + under a b) (minus sign size * D + above a b) (5 * (E * D))
   pub most : size ≤ D + (c + 5) * E
 
@@ -46,7 +47,7 @@ with-sign : (s : Bool) (p d q r : ℕ) → Within (p * d) q r → Within (plus s
 with-sign true p d q r h = omega (arith, zero-mul d)
 with-sign false p d q r h = omega (arith, zero-mul d)
 
-at-last : (s d e c : ℕ) → 0 < d → s * d ≤ d * d + c * (e * d) + 5 * (e * d) → s ≤ d + (c + 5) * e
+pub at-last : (s d e c : ℕ) → 0 < d → s * d ≤ d * d + c * (e * d) + 5 * (e * d) → s ≤ d + (c + 5) * e
 at-last s d e c h k = le-of-mul-le-mul-right (le-trans k (le-of-eq (ring (d ∷ e ∷ c ∷ []) (var 0 ⊗ var 0 ⊕ var 2 ⊗ (var 1 ⊗ var 0) ⊕ lit 5 ⊗ (var 1 ⊗ var 0)) ((var 0 ⊕ (var 2 ⊕ lit 5) ⊗ var 1) ⊗ var 0) refl))) h
 
 module _ (v w : Vec3) (a b : Exact) (c : ℕ) (few : c ≤ 5000) (ra : Reads v a) (rb : Reads w b) (na : Norm a (D * D) (c * (E * D))) (nb : Norm b (D * D) (c * (E * D))) where
@@ -122,63 +123,3 @@ module _ (v w : Vec3) (a b : Exact) (c : ℕ) (few : c ≤ 5000) (ra : Reads v a
         (s .near) (t .near) (with-sign s1 (p1 .size) D q1 (E * D) (p1 .near)) (with-sign s2 (p2 .size) D q2 (E * D) (p2 .near)) (with-sign s3 (p3 .size) D q3 (E * D) (p3 .near));
     most = at-last (s .size) D E c (pow-pos 149) (sum-size D E q1 q2 q3 (c * (E * D)) (p1 .size) (p2 .size) (p3 .size) (t .size) (s .size) all (p1 .near) (p2 .near) (p3 .near) t-size s-size);
   }
-
--- ---- the computed squared length
-pub record Long (v : Exact) (l : Float) (c : ℕ) : Type 0 where
-  pub size : ℕ
-  pub has : Num l false size
-  pub near : Within (size * D) (norm v) (5 * (E * D))
-  pub close : Within size D ((c + 5) * E)
-
-alike : (s : Bool) (n : ℕ) → (plus (unlike s s) n ≡ n) × (minus (unlike s s) n ≡ 0)
-alike true n = (refl, refl)
-alike false n = (refl, refl)
-
--- a dot product with itself is not negative
-not-below : (d e c n l : ℕ) → 0 < e → 0 < d → c ≤ 5000 → 100000 * e ≤ d → d * d ≤ n + c * (e * d) → 0 + n ≤ l + 5 * (e * d) → l ≡ 0 → ⊥
-not-below d e c n l E0 D0 few k h w z =
-    clash (d * d) n (c * (e * d)) (e * d) l (mul-pos E0 D0) (le-trans (le-of-eq (sym (add-mul c 6 (e * d)))) (le-trans (mul-le-mul-right (e * d) (more c few)) (le-trans (le-of-eq (sym (mul-assoc 100000 e d))) (mul-le-mul-right d k)))) h w z
-  where
-    more : (c : ℕ) → c ≤ 5000 → c + 6 ≤ 100000
-    more c h = omega arith
-
-    clash : (u n g r l : ℕ) → 0 < r → g + 6 * r ≤ u → u ≤ n + g → 0 + n ≤ l + 5 * r → l ≡ 0 → ⊥
-    clash u n g r l p h k w z = omega arith
-
-plainly : (a b c : ℕ) → Within (a + 0) (0 + b) c → Within a b c
-plainly a b c h = omega arith
-
-smaller : (n x r : ℕ) → x + n ≤ 0 + 0 + r → 0 + n ≤ 0 + r
-smaller n x r h = omega arith
-
-close-to : (s d e c n : ℕ) → 0 < d → Within (s * d) n (5 * (e * d)) → Within n (d * d) (c * (e * d)) → Within s d ((c + 5) * e)
-close-to s d e c n D0 w l = (
-  at-last s d e c D0 (chain (s * d) n (d * d) (c * (e * d)) (5 * (e * d)) (w .0) (l .0)),
-  le-of-mul-le-mul-right (le-trans (chain' (s * d) n (d * d) (c * (e * d)) (5 * (e * d)) (w .1) (l .1)) (le-of-eq (ring (d ∷ e ∷ c ∷ s ∷ []) (var 3 ⊗ var 0 ⊕ var 2 ⊗ (var 1 ⊗ var 0) ⊕ lit 5 ⊗ (var 1 ⊗ var 0)) ((var 3 ⊕ (var 2 ⊕ lit 5) ⊗ var 1) ⊗ var 0) refl))) D0,
-)
-  where
-    chain : (x n u g r : ℕ) → x ≤ n + r → n ≤ u + g → x ≤ u + g + r
-    chain x n u g r h k = omega arith
-
-    chain' : (x n u g r : ℕ) → n ≤ x + r → u ≤ n + g → u ≤ x + g + r
-    chain' x n u g r h k = omega arith
-
-module _ (u : Vec3) (v : Exact) (c : ℕ) (few : c ≤ 5000) (r : Reads u v) (long : Norm v (D * D) (c * (E * D))) where
-  own : Dotted v v (dot u u) c
-  own = dot-near u u v v c few r r long long
-
-  own-norm : above v v ≡ norm v
-  own-norm = ap₂ _+_ (ap₂ _+_ (alike (v .sx) (v .ax * v .ax) .0) (alike (v .sy) (v .ay * v .ay) .0)) (alike (v .sz) (v .az * v .az) .0)
-
-  own-none : under v v ≡ 0
-  own-none = ap₂ _+_ (ap₂ _+_ (alike (v .sx) (v .ax * v .ax) .1) (alike (v .sy) (v .ay * v .ay) .1)) (alike (v .sz) (v .az * v .az) .1)
-
-  pub length-near : Long v (lengthSquared u) c
-  unfolding lengthSquared
-  length-near = at (own .sign) (own .size) (own .has) (subst (λ (u : ℕ). Within (plus (own .sign) (own .size) * D + u) (minus (own .sign) (own .size) * D + norm v) (5 * (E * D))) own-none (subst (λ (u : ℕ). Within (plus (own .sign) (own .size) * D + under v v) (minus (own .sign) (own .size) * D + u) (5 * (E * D))) own-norm (own .near)))
-    where
-      at : (s : Bool) (l : ℕ) → Num (lengthSquared u) s l → Within (plus s l * D + 0) (minus s l * D + norm v) (5 * (E * D)) → Long v (lengthSquared u) c
-      at true l h w = absurd (not-below D E c (norm v) 0 (pow-pos 125) (pow-pos 149) few (lit≤ tt) (long .1) (smaller (norm v) (l * D) (5 * (E * D)) (w .1)) refl)
-      at false l h w =
-          let k = plainly (l * D) (norm v) (5 * (E * D)) w in
-          record { size = l; has = h; near = k; close = close-to l D E c (norm v) (pow-pos 149) k long }

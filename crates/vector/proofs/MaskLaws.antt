@@ -1,7 +1,7 @@
 -- The bits of a mask, joined by `|` at their places, are their sum. Assumes nothing.
 use mathlib.Core.Path.{_≡_, refl}
 use mathlib.Core.Bool.{Bool, true, false}
-use Prim.Native.Nat.{ℕ, _+_, _*_, _%_}
+use Prim.Native.Nat.{_+_, _*_, _%_}
 use lib.Bits.{bitOr}
 use Rattle.vector.specs.Masks.{bit}
 

@@ -1,6 +1,6 @@
 -- The squared length of a finite vector is a number, maybe infinite, and above zero where it is not zero. Assumes nothing.
 use mathlib.Core.Path.{_≡_, subst, sym}
-use mathlib.Core.Bool.{Bool, true, false, not, true≢false}
+use mathlib.Core.Bool.{true, false, not, true≢false}
 use Prim.Native.Nat.{ℕ, zero, suc, _+_, _*_}
 use native.Mathlib.Nat.{mul-pos, zero-mul}
 use native.Mathlib.Omega.{arith}

@@ -1,7 +1,7 @@
 -- The order of floats by `<` and `<=`: what is compared are numbers, `<` never holds both ways, and a number between two that it separates is on one side. Assumes nothing.
 use mathlib.Core.Bool.{Bool, true, false, not, _||_, _&&_}
 use Prim.Native.Nat.{ℕ, _+_, _*_, _≤_, _<_}
-use mathlib.Core.Logic.{_⊎_, inl, inr}
+use mathlib.Core.Logic.{inl, inr}
 use native.Mathlib.Nat.{lt-of-not-le, not-le-of-lt, le-of-eq, mul-pos, eq-zero-or-pos}
 use native.Mathlib.Omega.{arith}
 use lib.Dec.{T, eqb, eqb-refl, ltb→lt, lt→ltb, nltb→le}

@@ -1,9 +1,7 @@
 -- The two directions made of a direction's pair, each vector of the pair times the reciprocal of its length: their exact dot products with the direction and
 -- with each other are small. Assumes nothing.
 use mathlib.Core.Path.{_≡_, subst, subst₂}
-use Prim.Native.Nat.{ℕ, _+_, _*_, _≤_}
-use native.Mathlib.Nat.{mul-le-mul-right}
-use native.Mathlib.Omega.{arith}
+use Prim.Native.Nat.{ℕ, _*_, _≤_}
 use lib.Dec.{T, lit≤}
 use lib.Ieee.{binary32, fits}
 use Rattle.vector.specs.declared.vec3.Vec3.{Vec3}
@@ -11,7 +9,8 @@ use Rattle.vector.specs.Operators.{mulNumber}
 use Rattle.vector.specs.Products.{length, lengthSquared, lengthRecip}
 use Rattle.vector.specs.Orthogonal.{firstOf, secondOf}
 use Rattle.vector.proofs.SignedVectors.{D, E, Exact, Reads, Dot, Norm, exactOf, exact-of}
-use Rattle.vector.proofs.DotErrorLaws.{Long, length-near}
+use Rattle.vector.proofs.LengthErrorLaws.{Long, length-near, long-bounds}
+use Rattle.vector.proofs.SquaredLengthLaws.{squared-fits}
 use Rattle.vector.proofs.NearOneRoots.{Reciprocal, reciprocal}
 use Rattle.vector.proofs.PairDots.{first, second, first-reads, second-reads, first-norm, second-norm, first-direction, second-direction, first-direction-reads, second-direction-reads, first-direction-normal, second-direction-normal, directions-across}
 
@@ -20,28 +19,16 @@ abbrev pub unitOf : Vec3 → Vec3
 unitOf u = mulNumber u (lengthRecip u)
 
 -- ---- the reciprocal of a computed length, where the squared length is within c + 5 errors of 1
-few-errors : (n d e c : ℕ) → c ≤ 5000 → 100000 * e ≤ d → n ≤ d + (c + 5) * e → n ≤ d * 2
-few-errors n d e c h k l = let m : (c + 5) * e ≤ 5005 * e = mul-le-mul-right e (more c h) in omega arith
-  where
-    more : (c : ℕ) → c ≤ 5000 → c + 5 ≤ 5005
-    more c h = omega arith
-
-at-least : (n d e c : ℕ) → c ≤ 5000 → d ≤ n + (c + 5) * e → d ≤ n + 5005 * e
-at-least n d e c h l = let m : (c + 5) * e ≤ 5005 * e = mul-le-mul-right e (more c h) in omega arith
-  where
-    more : (c : ℕ) → c ≤ 5000 → c + 5 ≤ 5005
-    more c h = omega arith
-
 length-recip-near : (u : Vec3) (a : Exact) (c : ℕ) → c ≤ 5000 → Long a (lengthSquared u) c → Reciprocal (lengthRecip u)
 unfolding lengthRecip length lengthSquared
-length-recip-near u a c few l = reciprocal (lengthSquared u) (l .size) (l .has) (few-errors (l .size) D E c few (lit≤ tt) (l .close .0)) (at-least (l .size) D E c few (l .close .1))
+length-recip-near u a c few l = reciprocal (lengthSquared u) (l .size) (squared-fits u) (l .has) (long-bounds a (lengthSquared u) c few l .0)
 
 module _ (v : Vec3) (n : Exact) (fx : T (fits binary32 (v .x))) (reads : Reads v n) (long : Norm n (D * D) (64 * (E * D))) where
   -- the computed squared lengths: within 95 errors of 1
-  pub first-long : Long (first v n fx reads long) (lengthSquared (firstOf v)) 90
+  first-long : Long (first v n fx reads long) (lengthSquared (firstOf v)) 90
   first-long = length-near (firstOf v) (first v n fx reads long) 90 (lit≤ tt) (first-reads v n fx reads long) (first-norm v n fx reads long)
 
-  pub second-long : Long (second v n fx reads long) (lengthSquared (secondOf v)) 90
+  second-long : Long (second v n fx reads long) (lengthSquared (secondOf v)) 90
   second-long = length-near (secondOf v) (second v n fx reads long) 90 (lit≤ tt) (second-reads v n fx reads long) (second-norm v n fx reads long)
 
   r1 : Reciprocal (lengthRecip (firstOf v))

@@ -42,7 +42,7 @@ Kp = var 9
 abbrev Km : Expr
 Km = var 10
 
--- n·v1
+-- n·v1 is at most 76 errors: from h near 1 - α x² (f1), b near α x y (f2) and α (x² + y²) near 1 - z (c1)
 pub normal-first : (d e x y z α b hp hm : ℕ) → 100000 * e ≤ d → x ≤ d + 32 * e → y ≤ d + 32 * e → Within (d * d * hp + α * (x * x)) (d * d * d + d * d * hm) (3 * (e * d * d)) → Within (d * d * b) (α * (x * y)) (2 * (e * d * d)) → Within (α * (x * x + y * y) + d * d * z) (d * d * d) (70 * (e * d * d)) → 0 < d * d
     → Within (x * hp) (y * b + z * x + x * hm) (76 * (e * d))
 normal-first d e x y z α b hp hm k hx hy f1 f2 c1 some = (
@@ -62,7 +62,7 @@ normal-first d e x y z α b hp hm k hx hy f1 f2 c1 some = (
       by X (A ⊗ (X ⊗ X ⊕ Y ⊗ Y) ⊕ D ⊗ D ⊗ Z) (D ⊗ D ⊗ D ⊕ lit 70 ⊗ (E ⊗ D ⊗ D)) (c1 .0) done)))))) tt) some,
 )
 
--- v1·v2
+-- v1·v2 is at most 88 errors: from h and k near 1 - α x² and 1 - α y² (f1, f3), b near α x y (f2) and 1 + α² (x² + y²) near 2 α (c2)
 pub first-second : (d e x y α b hp hm kp km : ℕ) → 100000 * e ≤ d → α ≤ d → b ≤ d → 2 * (x * y) ≤ x * x + y * y → x * x + y * y ≤ d * d + 64 * (e * d) → Within (d * d * hp + α * (x * x)) (d * d * d + d * d * hm) (3 * (e * d * d)) → Within (d * d * b) (α * (x * y)) (2 * (e * d * d)) → Within (d * d * kp + α * (y * y)) (d * d * d + d * d * km) (3 * (e * d * d)) → Within (d * d * d * d + α * α * (x * x + y * y)) (2 * (α * (d * d * d))) (75 * (e * d * d * d)) → 0 < d * d * d * d
     → Within (b * (hp + kp)) (x * y + b * (hm + km)) (88 * (e * d))
 first-second d e x y α b hp hm kp km k hα hb xy hσ f1 f2 f3 c2 some = (
@@ -90,7 +90,7 @@ first-second d e x y α b hp hm kp km k hα hb xy hσ f1 f2 f3 c2 some = (
       by (X ⊗ Y) (D ⊗ D ⊗ D ⊗ D ⊕ A ⊗ A ⊗ (X ⊗ X ⊕ Y ⊗ Y)) (lit 2 ⊗ (A ⊗ (D ⊗ D ⊗ D)) ⊕ lit 75 ⊗ (E ⊗ D ⊗ D ⊗ D)) (c2 .0) done)))))))))) tt) some,
 )
 
--- |v1|²
+-- the squared length of v1 is 1 within 90 errors: from h near 1 - α x² (f1), b near α x y (f2) and 1 + α² (x² + y²) near 2 α (c2)
 pub first-length : (d e x y α b hp hm : ℕ) → 100000 * e ≤ d → α ≤ d → b ≤ d → hp + hm ≤ d → hp * hm ≤ 0 → 2 * (x * y) ≤ x * x + y * y → x * x + y * y ≤ d * d + 64 * (e * d) → Within (d * d * hp + α * (x * x)) (d * d * d + d * d * hm) (3 * (e * d * d)) → Within (d * d * b) (α * (x * y)) (2 * (e * d * d)) → Within (d * d * d * d + α * α * (x * x + y * y)) (2 * (α * (d * d * d))) (75 * (e * d * d * d)) → 0 < d * d * d * d
     → Within (hp * hp + hm * hm + b * b + x * x) (d * d) (90 * (e * d))
 first-length d e x y α b hp hm k hα hb hh hz xy hσ f1 f2 c2 some = (

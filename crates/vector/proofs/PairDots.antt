@@ -8,14 +8,14 @@ use native.Mathlib.Omega.{arith}
 use lib.Dec.{T, lit≤, lit<}
 use lib.Pow.{pow-pos}
 use lib.Ieee.{Float, binary32, unlike, mul, fits}
+use Rattle.laws.proofs.ValueLaws.{Value}
 use Rattle.laws.proofs.Ring.{var, lit, _⊗_}
 use Rattle.laws.proofs.RingNat.{ring}
-use Rattle.laws.specs.Within.{Within}
 use Rattle.laws.proofs.RoundedOperations.{plus, minus, Sized, mul-near}
 use Rattle.vector.proofs.UnitDotCertificates.{normal-unit, size-of, units}
-use Rattle.vector.proofs.PairSigns.{three, back, back', first-of, assoc, last-of, not-through, both-not, dot-first, dot-second, dot-across, split, scaled, norm-of, swapped}
+use Rattle.vector.proofs.PairSigns.{three, back, back', first-of, assoc, last-of, not-through, both-not, dot-first, dot-second, dot-across, scaled, norm-of, swapped}
 use Rattle.vector.proofs.PairRoundings.{PairValues, pair-is}
-use Rattle.vector.proofs.SignedVectors.{D, E, Num, Exact, Reads, Dot, Norm, both-parts}
+use Rattle.vector.proofs.SignedVectors.{D, E, Exact, Reads, Dot, Norm, both-parts}
 use Rattle.vector.specs.declared.vec3.Vec3.{Vec3}
 use Rattle.vector.specs.Operators.{mulNumber}
 use Rattle.vector.specs.Orthogonal.{firstOf, secondOf}
@@ -60,37 +60,12 @@ module _ (v : Vec3) (n : Exact) (fx : T (fits binary32 (v .x))) (reads : Reads v
   unfolding second
   second-norm = swapped (pair .k) (pair .b) (n .ay) (D * D) (90 * (E * D)) (norm-of (pair .sk) (pair .k) (pair .b) (n .ay) (D * D) (90 * (E * D)) (pair .facts-of .length2))
 
-  pub first-normal : Dot n first (76 * (E * D))
-  unfolding first
-  first-normal =
-      three (unlike (n .sx) (pair .sh)) (unlike (n .sx) (pair .sh)) (unlike (n .sy) (not (unlike (n .sx) (n .sy)))) (not (n .sx)) (unlike (n .sz) (not (unlike (n .sz) (n .sx)))) (not (n .sx))
-      (n .ax * pair .h) (n .ay * pair .b) (n .az * n .ax) (76 * (E * D)) refl (back (n .sx) (n .sy)) (back' (n .sx) (n .sz))
-      (dot-first (n .sx) (pair .sh) (n .ax) (n .ay) (n .az) (pair .h) (pair .b) (n .ax) (76 * (E * D)) (pair .facts-of .normal1))
-
-  pub second-normal : Dot n second (76 * (E * D))
-  unfolding second
-  second-normal =
-      three (unlike (n .sx) (not (unlike (unlike (n .sx) (n .sy)) (n .sz)))) (not (unlike (n .sy) (n .sz))) (unlike (n .sy) (unlike (n .sz) (pair .sk))) (unlike (unlike (n .sy) (n .sz)) (pair .sk)) (unlike (n .sz) (not (n .sy))) (not (unlike (n .sy) (n .sz)))
-      (n .ax * pair .b) (n .ay * pair .k) (n .az * n .ay) (76 * (E * D)) (first-of (n .sx) (n .sy) (n .sz)) (assoc (n .sy) (n .sz) (pair .sk)) (last-of (n .sy) (n .sz))
-      (dot-second (unlike (n .sy) (n .sz)) (pair .sk) (n .ax) (n .ay) (n .az) (pair .k) (pair .b) (n .ay) (76 * (E * D)) (pair .facts-of .normal2))
-
-  pub first-second : Dot first second (88 * (E * D))
-  unfolding first second
-  first-second =
-      three (unlike (pair .sh) (not (unlike (unlike (n .sx) (n .sy)) (n .sz)))) (unlike (pair .sh) (not (unlike (unlike (n .sx) (n .sy)) (n .sz)))) (unlike (not (unlike (n .sx) (n .sy))) (unlike (n .sz) (pair .sk))) (unlike (not (unlike (unlike (n .sx) (n .sy)) (n .sz))) (pair .sk)) (unlike (not (unlike (n .sz) (n .sx))) (not (n .sy))) (unlike (unlike (n .sx) (n .sy)) (n .sz))
-      (pair .h * pair .b) (pair .b * pair .k) (n .ax * n .ay) (88 * (E * D)) refl (not-through (unlike (n .sx) (n .sy)) (n .sz) (pair .sk)) (both-not (n .sx) (n .sy) (n .sz))
-      (dot-across (unlike (unlike (n .sx) (n .sy)) (n .sz)) (pair .sh) (pair .sk) (pair .h) (pair .b) (n .ax) (pair .k) (pair .b) (n .ay) (88 * (E * D))
-      (opened (pair .b) (plus (pair .sh) (pair .h)) (plus (pair .sk) (pair .k)) (minus (pair .sh) (pair .h)) (minus (pair .sk) (pair .k)) (n .ax * n .ay) (88 * (E * D)) (pair .facts-of .across)))
-    where
-      opened : (b hp kp hm km c r : ℕ) → Within (b * (hp + kp)) (c + b * (hm + km)) r → Within (hp * b + b * kp) (c + hm * b + b * km) r
-      opened b hp kp hm km c r w = omega (arith, split b hp kp, split b hm km)
-
   -- ---- the products with r, at most 5/4
-  module _ (r : Float) (R : ℕ) (hr : Num r false R) (le : 4 * R ≤ 5 * D) where
+  module _ (r : Float) (R : ℕ) (hr : Value binary32 r false R) (le : 4 * R ≤ 5 * D) where
     wide : (a : ℕ) → a ≤ D → a ≤ D + 32 * E
     wide a h = le-trans h (lit≤ tt)
 
-    times : (u : Float) (s : Bool) (a : ℕ) → Num u s a → a ≤ D + 32 * E → Sized binary32 (mul binary32 u r) s D (a * R) E (D * 2)
+    times : (u : Float) (s : Bool) (a : ℕ) → Value binary32 u s a → a ≤ D + 32 * E → Sized binary32 (mul binary32 u r) s D (a * R) E (D * 2)
     times u s a h l =
         subst (λ (t : Bool). Sized binary32 (mul binary32 u r) t D (a * R) E (D * 2)) (plain s)
         (mul-near binary32 u r s false a R 1 h hr (small a R D E (lit≤ tt) l le) (lit≤ tt))
@@ -154,7 +129,7 @@ module _ (v : Vec3) (n : Exact) (fx : T (fits binary32 (v .x))) (reads : Reads v
         (scaled (pair .sk) (pair .k) R (w2y .size) E D (w2y .near)) (w2x .near) (w2z .near) (pow-pos 149)))
 
   -- ---- and the two to each other
-  pub directions-across : (r q : Float) (R Q : ℕ) (hr : Num r false R) (hq : Num q false Q) (lr : 4 * R ≤ 5 * D) (lq : 4 * Q ≤ 5 * D)
+  pub directions-across : (r q : Float) (R Q : ℕ) (hr : Value binary32 r false R) (hq : Value binary32 q false Q) (lr : 4 * R ≤ 5 * D) (lq : 4 * Q ≤ 5 * D)
       → Dot (first-direction r R hr lr) (second-direction q Q hq lq) (146 * (E * D))
   unfolding first-direction second-direction
   directions-across r q R Q hr hq lr lq =

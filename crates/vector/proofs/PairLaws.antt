@@ -1,5 +1,4 @@
--- Where every accepted vector has a direction (U, a hypothesis here), the vectors of a direction n's pair have directions, and these and n are nearly orthogonal,
--- two by two. Assumes nothing else.
+-- P: the vectors of a direction n's pair have lengths near 1 and directions, and these and n are nearly orthogonal, two by two. Assumes nothing.
 use mathlib.Core.Path.{_≡_, refl, sym, ap, _∙_, subst, subst₂}
 use mathlib.Core.Bool.{Bool, true, false, cond}
 use Prim.Native.Nat.{ℕ, _*_, _^_, _≤_}
@@ -16,11 +15,13 @@ use Rattle.vector.specs.Products.{lengthRecip}
 use Rattle.vector.specs.Normalizing.{usable, tryNormalize}
 use Rattle.vector.specs.Orthogonal.{scaleOf, mixOf, firstOf, secondOf, anyOrthonormalPair}
 use Rattle.vector.specs.ExactVectors.{F32Vec, Direction, NearlyOrthogonal}
-use Rattle.vector.specs.NumericLaws.{HasDirection, OrthogonalDirections, LawU, LawP}
+use Rattle.vector.specs.NumericLaws.{HasDirection, OrthogonalDirections, LawP}
 use Rattle.vector.proofs.NormalizingLaws.{taken}
-use Rattle.vector.proofs.SignedVectors.{D, E, Exact, Reads, Dot, exactOf, reads-of, dot-size}
+use Rattle.vector.proofs.SignedVectors.{D, E, Exact, Reads, Dot, exactOf, reads-of}
+use Rattle.vector.proofs.ExactDots.{dot-size}
 use Rattle.vector.proofs.PairDots.{first, second, first-reads, second-reads, first-norm, second-norm}
 use Rattle.vector.proofs.PairDirections.{unitOf, normal1, normal2, across}
+use Rattle.vector.proofs.UnitLaws.{law-u}
 use Rattle.vector.proofs.AcceptedLaws.{accepted, about-one}
 
 -- ---- a direction is the vector times the reciprocal of its length
@@ -50,7 +51,7 @@ second-values n h = record {
 nearly : (u v : Vec3) (c : ℕ) → c * (E * D) ≤ 2 ^ 282 → Dot (exactOf u) (exactOf v) (c * (E * D)) → NearlyOrthogonal u v
 nearly u v c l h = le-trans (dot-size u v (c * (E * D)) h) l
 
-module _ (U : LawU) (n : Vec3) (d : Direction n) where
+module _ (n : Vec3) (d : Direction n) where
   reads : Reads n (exactOf n)
   reads = reads-of n (d .values) (d .numbers)
 
@@ -67,10 +68,10 @@ module _ (U : LawU) (n : Vec3) (d : Direction n) where
   w-reads = second-reads n (exactOf n) (d .values .f32-x) reads (d .near)
 
   v-direction : HasDirection (firstOf n)
-  v-direction = U (firstOf n) (first-values n) (accepted (firstOf n) v 90 (lit≤ tt) v-reads (first-norm n (exactOf n) (d .values .f32-x) reads (d .near)))
+  v-direction = law-u (firstOf n) (first-values n) (accepted (firstOf n) v 90 (lit≤ tt) v-reads (first-norm n (exactOf n) (d .values .f32-x) reads (d .near)))
 
   w-direction : HasDirection (secondOf n)
-  w-direction = U (secondOf n) (second-values n (d .values .f32-y)) (accepted (secondOf n) w 90 (lit≤ tt) w-reads (second-norm n (exactOf n) (d .values .f32-x) reads (d .near)))
+  w-direction = law-u (secondOf n) (second-values n (d .values .f32-y)) (accepted (secondOf n) w 90 (lit≤ tt) w-reads (second-norm n (exactOf n) (d .values .f32-x) reads (d .near)))
 
   v-is : unitOf (firstOf n) ≡ v-direction .direction
   v-is = direction-is (firstOf n) (v-direction .direction) (v-direction .is)
@@ -89,6 +90,6 @@ module _ (U : LawU) (n : Vec3) (d : Direction n) where
     with-each-other = subst₂ (λ (u t : Vec3). NearlyOrthogonal u t) v-is w-is (nearly (unitOf (firstOf n)) (unitOf (secondOf n)) 146 (lit≤ tt) (across n (exactOf n) (d .values .f32-x) reads (d .near)));
   }
 
-pub law-p : LawU → LawP
+pub law-p : LawP
 unfolding anyOrthonormalPair
-law-p U n d = pair-directions U n d
+law-p n d = pair-directions n d

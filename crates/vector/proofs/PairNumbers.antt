@@ -7,8 +7,8 @@ use native.Mathlib.Omega.{arith}
 use Rattle.laws.proofs.Ring.{var, lit, _⊕_, _⊗_}
 use Rattle.laws.proofs.Certificates.{ring≤, cert, by, done, square}
 use Rattle.laws.specs.Within.{Within}
-use Rattle.vector.proofs.NearOneRoots.{square-le}
-use Rattle.vector.proofs.PairCertificates.{turned, along, doubled, first, second}
+use Rattle.laws.proofs.WholeRootLaws.{square-le}
+use Rattle.vector.proofs.PairProducts.{turned, along, doubled, first, second}
 use Rattle.vector.proofs.PairDotCertificates.{normal-first, first-second, first-length}
 
 -- ---- sizes

@@ -10,18 +10,20 @@ use lib.Ieee.{Float, nan, inf, fin, binary32, unlike, add, mul, neg, fits, ofBit
 use lib.Ieee.Fits.{mul-fits}
 use Rattle.laws.specs.Within.{Within}
 use Rattle.laws.specs.Exact.{negative}
-use Rattle.laws.proofs.RoundedOperations.{plus, minus, Sized, Signed, Summed, mul-near, div-near, add-near, add-like, neg-is}
+use Rattle.laws.proofs.ValueLaws.{Value}
+use Rattle.laws.proofs.OperationLaws.{neg-value}
+use Rattle.laws.proofs.RoundedOperations.{plus, minus, Sized, Signed, Summed, mul-near, div-near, add-near, add-like}
 use Rattle.laws.proofs.ExactProducts.{one-times}
 use Rattle.vector.proofs.PairNumbers.{Roundings, Facts, facts, size-le, twice-product}
 use Rattle.vector.proofs.PairSigns.{sign-h, sign-k, sign-b, sign-b1, sign-x1, sign-twice}
-use Rattle.vector.proofs.SignedVectors.{D, E, Num, one-is, both-parts, one-part}
+use Rattle.vector.proofs.SignedVectors.{D, E, one-is, both-parts, one-part}
 use Rattle.scalar.specs.Sign.{signum, copysign, abs}
 use Rattle.vector.specs.declared.vec3.Vec3.{Vec3}
 use Rattle.vector.specs.Vectors.{one}
 use Rattle.vector.specs.Orthogonal.{scaleOf, mixOf, firstOf, secondOf}
 
 -- ---- a sign
-pub signum-is : (z : Float) (s : Bool) (n : ℕ) → Num z s n → Num (signum z) s D
+pub signum-is : (z : Float) (s : Bool) (n : ℕ) → Value binary32 z s n → Value binary32 (signum z) s D
 unfolding signum copysign abs neg negative ofBits
 signum-is nan s n h = absurd h
 signum-is (inf t) s n h = absurd h
@@ -35,12 +37,12 @@ pub record PairValues (v : Vec3) (sx sy sz : Bool) (X Y Z : ℕ) : Type 0 where
   pub sk : Bool
   pub k : ℕ
   pub b : ℕ
-  pub first-x-is : Num (firstOf v .x) sh h
-  pub first-y-is : Num (firstOf v .y) (not (unlike sx sy)) b
-  pub first-z-is : Num (firstOf v .z) (not (unlike sz sx)) X
-  pub second-x-is : Num (secondOf v .x) (not (unlike (unlike sx sy) sz)) b
-  pub second-y-is : Num (secondOf v .y) (unlike sz sk) k
-  pub second-z-is : Num (secondOf v .z) (not sy) Y
+  pub first-x-is : Value binary32 (firstOf v .x) sh h
+  pub first-y-is : Value binary32 (firstOf v .y) (not (unlike sx sy)) b
+  pub first-z-is : Value binary32 (firstOf v .z) (not (unlike sz sx)) X
+  pub second-x-is : Value binary32 (secondOf v .x) (not (unlike (unlike sx sy) sz)) b
+  pub second-y-is : Value binary32 (secondOf v .y) (unlike sz sk) k
+  pub second-z-is : Value binary32 (secondOf v .z) (not sy) Y
   pub h-le : h ≤ D
   pub k-le : k ≤ D
   pub b-le : b ≤ D
@@ -91,7 +93,7 @@ h-near : (sh : Bool) (h γ d e : ℕ) → Within (plus sh h + (0 + γ)) (minus s
 h-near true h γ d e w = omega arith
 h-near false h γ d e w = omega arith
 
-module _ (v : Vec3) (sx sy sz : Bool) (X Y Z : ℕ) (fx : T (fits binary32 (v .x))) (hx : Num (v .x) sx X) (hy : Num (v .y) sy Y) (hz : Num (v .z) sz Z)
+module _ (v : Vec3) (sx sy sz : Bool) (X Y Z : ℕ) (fx : T (fits binary32 (v .x))) (hx : Value binary32 (v .x) sx X) (hy : Value binary32 (v .y) sy Y) (hz : Value binary32 (v .z) sz Z)
     (long : Within (X * X + Y * Y + Z * Z) (D * D) (64 * (E * D))) where
   sizes : (X * X ≤ D * D + 64 * (E * D)) × ((Y * Y ≤ D * D + 64 * (E * D)) × ((Z * Z ≤ D * D + 64 * (E * D)) × (X * X + Y * Y ≤ D * D + 64 * (E * D))))
   sizes = parts (X * X) (Y * Y) (Z * Z) (D * D + 64 * (E * D)) (long .0)
@@ -103,7 +105,7 @@ module _ (v : Vec3) (sx sy sz : Bool) (X Y Z : ℕ) (fx : T (fits binary32 (v .x
   t-ge = sum-is .least 0 (from-one D Z)
 
   recip-is : Sized binary32 (scaleOf (v .z)) (unlike true sz) (sum-is .size) (D * D) E D
-  recip-is = div-near binary32 (neg one) (add binary32 (signum (v .z)) (v .z)) true sz D (sum-is .size) 0 (lt-of-lt-of-le (pow-pos 149) t-ge) (neg-is binary32 one false D one-is) (sum-is .has) (times-one D (sum-is .size) t-ge) (lit≤ tt)
+  recip-is = div-near binary32 (neg one) (add binary32 (signum (v .z)) (v .z)) true sz D (sum-is .size) 0 (lt-of-lt-of-le (pow-pos 149) t-ge) (neg-value binary32 one false D one-is) (sum-is .has) (times-one D (sum-is .size) t-ge) (lit≤ tt)
 
   product-is : Sized binary32 (mul binary32 (v .x) (v .y)) (unlike sx sy) D (X * Y) E D
   product-is = mul-near binary32 (v .x) (v .y) sx sy X Y 0 hx hy (bound-xy (X * Y) (X * X + Y * Y) (D * D) (E * D) (twice-product X Y) (sizes .1 .1 .1) (lit≤ tt)) (lit≤ tt)
@@ -119,7 +121,7 @@ module _ (v : Vec3) (sx sy sz : Bool) (X Y Z : ℕ) (fx : T (fits binary32 (v .x
 
   h-of : Signed binary32 (firstOf v .x) (D + 0) (0 + x-part-of .size) E D
   h-of = add-near binary32 0 (lit≤ tt) one (mul binary32 (mul binary32 (mul binary32 (signum (v .z)) (v .x)) (v .x)) (scaleOf (v .z))) false true D (x-part-of .size) one-is
-      (subst (λ (s : Bool). Num (mul binary32 (mul binary32 (mul binary32 (signum (v .z)) (v .x)) (v .x)) (scaleOf (v .z))) s (x-part-of .size)) (sign-h sz sx) (x-part-of .has))
+      (subst (λ (s : Bool). Value binary32 (mul binary32 (mul binary32 (mul binary32 (signum (v .z)) (v .x)) (v .x)) (scaleOf (v .z))) s (x-part-of .size)) (sign-h sz sx) (x-part-of .has))
       (h-low D (x-part-of .size)) (h-high D (x-part-of .size) (x-part-of .most))
 
   y-square-of : Sized binary32 (mul binary32 (v .y) (v .y)) (unlike sy sy) D (Y * Y) E (D * 2)
@@ -130,11 +132,11 @@ module _ (v : Vec3) (sx sy sz : Bool) (X Y Z : ℕ) (fx : T (fits binary32 (v .x
 
   k-of : Signed binary32 (secondOf v .y) (plus sz D + plus (not sz) (y-part-of .size)) (minus sz D + minus (not sz) (y-part-of .size)) E D
   k-of = add-near binary32 0 (lit≤ tt) (signum (v .z)) (mul binary32 (mul binary32 (v .y) (v .y)) (scaleOf (v .z))) sz (not sz) D (y-part-of .size) (signum-is (v .z) sz Z hz)
-      (subst (λ (s : Bool). Num (mul binary32 (mul binary32 (v .y) (v .y)) (scaleOf (v .z))) s (y-part-of .size)) (sign-k sz sy) (y-part-of .has))
+      (subst (λ (s : Bool). Value binary32 (mul binary32 (mul binary32 (v .y) (v .y)) (scaleOf (v .z))) s (y-part-of .size)) (sign-k sz sy) (y-part-of .has))
       (k-low sz D (y-part-of .size) (y-part-of .most)) (k-high sz D (y-part-of .size) (y-part-of .most))
 
-  b-has : Num (mixOf v) (not (unlike (unlike sx sy) sz)) (b-of .size)
-  b-has = subst (λ (s : Bool). Num (mixOf v) s (b-of .size)) (sign-b (unlike sx sy) sz) (b-of .has)
+  b-has : Value binary32 (mixOf v) (not (unlike (unlike sx sy) sz)) (b-of .size)
+  b-has = subst (λ (s : Bool). Value binary32 (mixOf v) s (b-of .size)) (sign-b (unlike sx sy) sz) (b-of .has)
 
   roundings : Roundings D E X Y Z (sum-is .size) (recip-is .size) (x-square-of .size) (x-part-of .size) (y-square-of .size) (y-part-of .size) (product-is .size) (b-of .size)
       (plus (h-of .sign) (h-of .size)) (minus (h-of .sign) (h-of .size)) (plus (unlike sz (k-of .sign)) (k-of .size)) (minus (unlike sz (k-of .sign)) (k-of .size))
@@ -168,12 +170,12 @@ module _ (v : Vec3) (sx sy sz : Bool) (X Y Z : ℕ) (fx : T (fits binary32 (v .x
     k = k-of .size;
     b = b-of .size;
     first-x-is = h-of .has;
-    first-y-is = subst (λ (s : Bool). Num (firstOf v .y) s (b-of .size)) (sign-b1 (unlike sx sy) sz)
+    first-y-is = subst (λ (s : Bool). Value binary32 (firstOf v .y) s (b-of .size)) (sign-b1 (unlike sx sy) sz)
         (one-times binary32 (signum (v .z)) (mixOf v) sz (not (unlike (unlike sx sy) sz)) (b-of .size) (mul-fits binary32 (mul binary32 (v .x) (v .y)) (scaleOf (v .z))) b-has (signum-is (v .z) sz Z hz));
-    first-z-is = subst (λ (s : Bool). Num (firstOf v .z) s X) (sign-x1 sz sx) (one-times binary32 (neg (signum (v .z))) (v .x) (not sz) sx X fx hx (neg-is binary32 (signum (v .z)) sz D (signum-is (v .z) sz Z hz)));
+    first-z-is = subst (λ (s : Bool). Value binary32 (firstOf v .z) s X) (sign-x1 sz sx) (one-times binary32 (neg (signum (v .z))) (v .x) (not sz) sx X fx hx (neg-value binary32 (signum (v .z)) sz D (signum-is (v .z) sz Z hz)));
     second-x-is = b-has;
-    second-y-is = subst (λ (s : Bool). Num (secondOf v .y) s (k-of .size)) (sign-twice sz (k-of .sign)) (k-of .has);
-    second-z-is = neg-is binary32 (v .y) sy Y hy;
+    second-y-is = subst (λ (s : Bool). Value binary32 (secondOf v .y) s (k-of .size)) (sign-twice sz (k-of .sign)) (k-of .has);
+    second-z-is = neg-value binary32 (v .y) sy Y hy;
     h-le = h-of .most;
     k-le = k-of .most;
     b-le = b-of .most;

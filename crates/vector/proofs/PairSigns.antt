@@ -1,8 +1,8 @@
 -- How signs go through the products and sums of the pair and its dot products: what holds of sizes holds with signs. Assumes nothing.
-use mathlib.Core.Path.{_≡_, refl, sym, ap, _∙_, subst}
+use mathlib.Core.Path.{_≡_, refl, sym, subst}
 use mathlib.Core.Bool.{Bool, true, false, not}
 use Prim.Native.Nat.{ℕ, _+_, _*_}
-use native.Mathlib.Nat.{mul-comm, add-mul, zero-mul, mul-zero}
+use native.Mathlib.Nat.{zero-mul, mul-zero}
 use native.Mathlib.Omega.{arith}
 use lib.Ieee.{unlike}
 use Rattle.laws.specs.Within.{Within}
@@ -139,9 +139,6 @@ dot-across false true true h b c k b' c' r w = omega (arith, mul-zero b, zero-mu
 dot-across false true false h b c k b' c' r w = omega (arith, mul-zero b, zero-mul b')
 dot-across false false true h b c k b' c' r w = omega (arith, mul-zero b, zero-mul b')
 dot-across false false false h b c k b' c' r w = omega (arith, mul-zero b, zero-mul b')
-
-pub split : (b x y : ℕ) → b * (x + y) ≡ x * b + b * y
-split b x y = mul-comm b (x + y) ∙ add-mul x y b ∙ ap (λ (z : ℕ). x * b + z) (mul-comm y b)
 
 -- ---- a product with a factor that is not negative, and a squared length, with their signs
 pub scaled : (s : Bool) (h r w e d : ℕ) → Within (w * d) (h * r) (e * d) → Within (plus s w * d + minus s h * r) (plus s h * r + minus s w * d) (e * d)

@@ -8,12 +8,12 @@ use lib.Dec.{T, eqb, eqb→eq, ltb, ltb→lt, lt→ltb, lit≤, lit<}
 use lib.Pow.{pow-pos}
 use lib.Ieee.{Float, nan, inf, fin, binary32, up, down, fits, ofBits, round, div, lt}
 use lib.Ieee.Bits.{is-true, ofBits-fits}
-use lib.Ieee.Exact.{HasValue}
 use lib.Ieee.Fits.{up-pos}
 use lib.Ieee.Order.{round-mono}
 use lib.Ieee.Positive.{positive, positive-finite, positive-of-value, value-pos, between}
 use lib.Ieee.Scale.{finite}
 use Rattle.laws.specs.Exact.{negative, sizeIn}
+use Rattle.laws.proofs.ValueLaws.{Value}
 use Rattle.laws.proofs.SizeLaws.{value-of-size, size-below}
 use Rattle.scalar.specs.Root.{root}
 use Rattle.scalar.specs.RootMeaning.{NearestRoot}
@@ -21,7 +21,7 @@ use Rattle.scalar.proofs.RootMeaningLaws.{root-means}
 use Rattle.vector.specs.Vectors.{one}
 use Rattle.vector.specs.Normalizing.{usable}
 use Rattle.vector.specs.NormalizingMeaning.{zeroInfiniteOrNan}
-use Rattle.vector.proofs.RootOrderLaws.{root-at-least, root-at-most}
+use Rattle.vector.proofs.RootOrderLaws.{root-at-least, root-at-most, nearest-value}
 
 -- ---- u / v is N / D: bounds of N are bounds of u and v
 u-most : (u v N D E : ℕ) → 0 < D → u * D ≡ N * v → N ≤ E * D → u ≤ E * v
@@ -53,7 +53,7 @@ not-zero n h = go (eqb n 0) (eqb→eq n 0)
     go true f = absurd (lt-irrefl 0 (subst (λ (k : ℕ). 0 < k) (f tt) h))
     go false f = refl
 
-recip-positive : (y : Float) (N : ℕ) → HasValue y false N (2 ^ 149) → 2 ^ 74 ≤ N → N ≤ 2 ^ 213 → T (positive (div binary32 one y))
+recip-positive : (y : Float) (N : ℕ) → Value binary32 y false N → 2 ^ 74 ≤ N → N ≤ 2 ^ 213 → T (positive (div binary32 one y))
 unfolding div ofBits
 recip-positive nan N v h k = absurd v
 recip-positive (inf s) N v h k = absurd v
@@ -80,38 +80,32 @@ least = ofBits binary32 0x1a000000
 abbrev most : Float
 most = ofBits binary32 0x5f800000
 
-size-of-least : sizeIn binary32 least ≡ 2 ^ 74
-unfolding sizeIn ofBits
-size-of-least = refl
+least-is : Value binary32 least false (2 ^ 74)
+unfolding ofBits
+least-is = (refl, refl)
 
-size-of-most : sizeIn binary32 most ≡ 2 ^ 213
-unfolding sizeIn ofBits
-size-of-most = refl
+most-is : Value binary32 most false (2 ^ 213)
+unfolding ofBits
+most-is = (refl, refl)
 
 module _ (x : Float) (F : T (fits binary32 x)) (p : T (positive x)) where
   number : T (finite x)
   number = positive-finite x p
 
   pub size-pos : 0 < sizeIn binary32 x
-  size-pos = value-pos x (sizeIn binary32 x) (2 ^ 149) p (pow-pos 149) (subst (λ (s : Bool). HasValue x s (sizeIn binary32 x) (2 ^ 149)) (positive-sign x p) (value-of-size binary32 x F number))
+  size-pos = value-pos x (sizeIn binary32 x) (2 ^ 149) p (pow-pos 149) (subst (λ (s : Bool). Value binary32 x s (sizeIn binary32 x)) (positive-sign x p) (value-of-size binary32 x F number))
 
-  near : NearestRoot x (root x)
-  near = root-means x F number (positive-sign x p) size-pos
+  pub nearest : NearestRoot x (root x)
+  nearest = root-means x F number (positive-sign x p) size-pos
 
   pub root-least : 2 ^ 74 ≤ sizeIn binary32 (root x)
-  root-least =
-      rw size-of-least at
-      (root-at-least x (root x) least near (ofBits-fits binary32 0x1a000000)
-      (rw size-of-least (le-trans (lit≤ tt) (mul-le-mul-right (2 ^ 149) size-pos))))
+  root-least = root-at-least x (root x) least (2 ^ 74) nearest (ofBits-fits binary32 0x1a000000) least-is (le-trans (lit≤ tt) (mul-le-mul-right (2 ^ 149) size-pos))
 
   pub root-most : sizeIn binary32 (root x) ≤ 2 ^ 213
-  root-most =
-      rw size-of-most at
-      (root-at-most x (root x) most near (ofBits-fits binary32 0x5f800000)
-      (rw size-of-most (le-trans (mul-le-mul-right (2 ^ 149) (le-of-lt (size-below binary32 x F number))) (lit≤ tt))))
+  root-most = root-at-most x (root x) most (2 ^ 213) nearest (ofBits-fits binary32 0x5f800000) most-is (le-trans (mul-le-mul-right (2 ^ 149) (le-of-lt (size-below binary32 x F number))) (lit≤ tt))
 
-  pub root-value : HasValue (root x) false (sizeIn binary32 (root x)) (2 ^ 149)
-  root-value = subst (λ (s : Bool). HasValue (root x) s (sizeIn binary32 (root x)) (2 ^ 149)) (near .sign) (value-of-size binary32 (root x) (near .value) (near .number))
+  pub root-value : Value binary32 (root x) false (sizeIn binary32 (root x))
+  root-value = nearest-value x (root x) nearest
 
   pub recip-root-positive : T (positive (div binary32 one (root x)))
   recip-root-positive = recip-positive (root x) (sizeIn binary32 (root x)) root-value root-least root-most

@@ -1,4 +1,4 @@
--- Where every accepted vector has a direction (U, a hypothesis here), a direction reflected in another has one. Assumes nothing else.
+-- M: a direction reflected in another has a direction. Assumes nothing.
 use lib.Dec.{lit≤}
 use lib.Ieee as Ieee
 use lib.Ieee.{binary32}
@@ -8,7 +8,7 @@ use Rattle.vector.specs.Operators.{sub, numberMul}
 use Rattle.vector.specs.Products.{dot}
 use Rattle.vector.specs.Optics.{two, reflect}
 use Rattle.vector.specs.ExactVectors.{F32Vec}
-use Rattle.vector.specs.NumericLaws.{LawU, LawM}
+use Rattle.vector.specs.NumericLaws.{LawM}
 use Rattle.vector.proofs.SignedVectors.{exactOf, reads-of}
 use Rattle.vector.proofs.ReflectRoundings.{reflected, reflected-reads, reflected-norm}
 use Rattle.vector.proofs.AcceptedLaws.{never-refused}
@@ -22,9 +22,9 @@ reflect-values : (a b : Vec3) → F32Vec (reflect a b)
 unfolding reflect
 reflect-values a b = sub-values a (numberMul (Ieee.mul binary32 two (dot a b)) b)
 
-pub law-m : LawU → LawM
-law-m U a b da db =
+pub law-m : LawM
+law-m a b da db =
     let ra = reads-of a (da .values) (da .numbers) in
     let rb = reads-of b (db .values) (db .numbers) in
     never-refused (reflect a b) (reflected a b (exactOf a) (exactOf b) ra rb (da .near) (db .near)) 440 (lit≤ tt)
-    (reflected-reads a b (exactOf a) (exactOf b) ra rb (da .near) (db .near)) (reflected-norm a b (exactOf a) (exactOf b) ra rb (da .near) (db .near)) U (reflect-values a b)
+    (reflected-reads a b (exactOf a) (exactOf b) ra rb (da .near) (db .near)) (reflected-norm a b (exactOf a) (exactOf b) ra rb (da .near) (db .near)) (reflect-values a b)

@@ -1,8 +1,8 @@
 -- `reflect` of two vectors of lengths near 1: the mirrored vector's length is near 1. Assumes nothing.
-use mathlib.Core.Path.{_≡_, refl, sym, ap, _∙_, subst}
+use mathlib.Core.Path.{refl, subst}
 use mathlib.Core.Bool.{Bool, true, false, not, cond}
-use Prim.Native.Nat.{ℕ, _+_, _*_, _≤_}
-use native.Mathlib.Nat.{le-trans, le-of-eq, lt-of-le-of-lt, add-mul, zero-mul, mul-comm, mul-le-mul-right}
+use Prim.Native.Nat.{ℕ, _+_, _*_, _≤_, _<_}
+use native.Mathlib.Nat.{mul-le-mul, mul-le-mul-left, le-of-mul-le-mul-right, lt-of-le-of-lt, zero-mul, mul-comm, mul-le-mul-right}
 use native.Mathlib.Omega.{arith}
 use lib.Dec.{T, lit≤, lit<}
 use lib.Pow.{pow-pos}
@@ -10,17 +10,17 @@ use lib.Ieee as Ieee
 use lib.Ieee.{Float, binary32, unlike, add, mul, fits, ofBits}
 use lib.Ieee.Fits.{add-fits}
 use Rattle.laws.specs.Within.{Within}
+use Rattle.laws.proofs.ValueLaws.{Value}
 use Rattle.laws.proofs.RoundedOperations.{plus, minus, Sized, Signed, mul-near, sub-near}
 use Rattle.laws.proofs.ExactProducts.{power-times}
 use Rattle.vector.proofs.PairNumbers.{size-le}
-use Rattle.vector.proofs.SignedVectors.{D, E, Num, Exact, Reads, norm, above, under, Norm, sides, plain-sign, parts-of}
+use Rattle.vector.proofs.SignedVectors.{D, E, Exact, Reads, norm, above, under, Norm, sides, plain-sign, parts-of}
 use Rattle.vector.specs.declared.vec3.Vec3.{Vec3}
 use Rattle.vector.specs.Operators.{sub, numberMul}
 use Rattle.vector.specs.Products.{dot}
 use Rattle.vector.specs.Optics.{two, reflect}
 use Rattle.vector.proofs.DotErrorLaws.{Dotted, dot-near}
-use Rattle.vector.proofs.ReflectCertificates.{mirror-length, mirror-product, mirror-part}
-use Rattle.vector.proofs.DifferenceLaws.{Component, toward, against, difference}
+use Rattle.vector.proofs.CombinationLaws.{Component, component-of, toward, against, difference}
 
 -- one component of a - 2 * a.dot(b) * b, with q = 2 * a.dot(b)
 abbrev mirrored : Float → Float → Float → Float
@@ -30,52 +30,50 @@ dot-fits : (v w : Vec3) → T (fits binary32 (dot v w))
 unfolding dot
 dot-fits v w = add-fits binary32 (add binary32 (mul binary32 (v .x) (w .x)) (mul binary32 (v .y) (w .y))) (mul binary32 (v .z) (w .z))
 
-two-is : Num two false (D * 2)
+two-is : Value binary32 two false (D * 2)
 unfolding ofBits
 two-is = (refl, refl)
 
 -- ---- in whole numbers
-pub times-d : (x y z x' y' z' e d : ℕ) → Within (x + (y + z)) (x' + (y' + z')) e → Within (x * d + (y * d + z * d)) (x' * d + (y' * d + z' * d)) (e * d)
-times-d x y z x' y' z' e d w = (
-  le-trans (le-of-eq (open3 x y z d)) (le-trans (mul-le-mul-right d (w .0)) (le-of-eq (add-mul (x' + (y' + z')) e d ∙ ap (λ (n : ℕ). n + e * d) (sym (open3 x' y' z' d))))),
-  le-trans (le-of-eq (open3 x' y' z' d)) (le-trans (mul-le-mul-right d (w .1)) (le-of-eq (add-mul (x + (y + z)) e d ∙ ap (λ (n : ℕ). n + e * d) (sym (open3 x y z d))))),
-)
-  where
-    open3 : (x y z d : ℕ) → x * d + (y * d + z * d) ≡ (x + (y + z)) * d
-    open3 x y z d = sym (add-mul x (y + z) d ∙ ap (λ (n : ℕ). x * d + n) (add-mul y z d))
+exactly : (a d : ℕ) → Within (a * d) (d * a) (0 * d)
+exactly a d = omega (arith, mul-comm a d, zero-mul d)
 
-component-of : (sr sa sm : Bool) (r a m v d e : ℕ) → Within (m * d) v (e * 2 * d) → Within (plus sr r + (minus sa a + minus (not sm) m)) (minus sr r + (plus sa a + plus (not sm) m)) (e * 2)
-    → Component sr r sa (d * a) sm v d (e * 2 * d + e * 2 * d)
-component-of sr sa sm r a m v d e w k =
-    go sr sa sm (times-d (plus sr r) (minus sa a) (minus (not sm) m) (minus sr r) (plus sa a) (plus (not sm) m) (e * 2) d k)
-  where
-    go : (sr sa sm : Bool) → Within (plus sr r * d + (minus sa a * d + minus (not sm) m * d)) (minus sr r * d + (plus sa a * d + plus (not sm) m * d)) (e * 2 * d) → Component sr r sa (d * a) sm v d (e * 2 * d + e * 2 * d)
-    go true true true k = omega (arith, zero-mul d, mul-comm d a)
-    go true true false k = omega (arith, zero-mul d, mul-comm d a)
-    go true false true k = omega (arith, zero-mul d, mul-comm d a)
-    go true false false k = omega (arith, zero-mul d, mul-comm d a)
-    go false true true k = omega (arith, zero-mul d, mul-comm d a)
-    go false true false k = omega (arith, zero-mul d, mul-comm d a)
-    go false false true k = omega (arith, zero-mul d, mul-comm d a)
-    go false false false k = omega (arith, zero-mul d, mul-comm d a)
+-- 2 δ b is at most 4, b being the size of a component
+mirror-product : (d e δ b : ℕ) → 100000 * e ≤ d → δ ≤ d + 69 * e → b ≤ d + 32 * e
+    → δ * 2 * b ≤ d * d * 4
+mirror-product d e δ b k hδ hb = let l : 4 * δ ≤ 5 * d = omega arith in let m : 4 * b ≤ 5 * d = omega arith in omega (arith, mul-le-mul l m)
+
+-- and m, which is 2 δ b rounded (hm), is at most 2 and 300 errors
+mirror-part : (d e δ b m : ℕ) → 100000 * e ≤ d → δ ≤ d + 69 * e → b ≤ d + 32 * e → Within (m * d) (δ * 2 * b) (e * 2 * d) → 0 < d
+    → m ≤ d * 2 + 300 * e
+mirror-part d e δ b m k hδ hb hm some = let l : m * d ≤ (d * 2 + 300 * e) * d = omega (arith, mul-le-mul hδ hb, mul-le-mul-left e k) in le-of-mul-le-mul-right l some
 
 room : (a m d e : ℕ) → 100000 * e ≤ d → a ≤ d + 32 * e → m ≤ d * 2 + 300 * e → a + m ≤ d * 4
 room a m d e k h l = omega arith
 
 -- the dot product, by its own sign
-own-sign : (s : Bool) (δ d m p r : ℕ) → Within (plus s δ * d + m) (minus s δ * d + p) r → Within (δ * d + cond s p m) (cond s m p) r
-own-sign true δ d m p r w = omega (arith, zero-mul d)
-own-sign false δ d m p r w = omega (arith, zero-mul d)
+by-own-sign : (s : Bool) (δ d m p r : ℕ) → Within (plus s δ * d + m) (minus s δ * d + p) r → Within (δ * d + cond s p m) (cond s m p) r
+by-own-sign true δ d m p r w = omega (arith, zero-mul d)
+by-own-sign false δ d m p r w = omega (arith, zero-mul d)
+
+-- r = a - 2 δ b: its squared length nr is 1 within 440 errors. From the square of a - 2 δ b (v), δ near the exact dot product cp - cm (hd) and the squared lengths
+-- na and nb of a and b near 1 (ha, hb)
+mirror-length : (d e δ cp cm nr na nb : ℕ) → 100000 * e ≤ d → δ ≤ d + 69 * e → Within (δ * d + cm) cp (5 * (e * d)) → Within na (d * d) (64 * (e * d)) → Within nb (d * d) (64 * (e * d)) → Within (d * d * nr + 2 * (d * (δ * 2) * cp)) (d * d * na + δ * 2 * (δ * 2) * nb + 2 * (d * (δ * 2) * cm)) (3 * (4 * (e * d) * (2 * (d * (d * 4)) + 4 * (e * d)))) → 0 < d * d
+    → Within nr (d * d) (440 * (e * d))
+mirror-length d e δ cp cm nr na nb k hδ hd ha hb v some = (
+  let g : nr * (d * d) ≤ (d * d + 440 * (e * d)) * (d * d) = omega (arith, mul-le-mul-left (d * d * e) k, mul-le-mul-left (d * e * δ) k, mul-le-mul-left (d * d * e) hδ, mul-le-mul-left (d * e * δ) hδ, mul-le-mul-left (d * δ) (hd .0), mul-le-mul-left (d * d) (ha .0), mul-le-mul-left (δ * δ) (hb .0)) in le-of-mul-le-mul-right g some,
+  let g : d * d * (d * d) ≤ (nr + 440 * (e * d)) * (d * d) = omega (arith, mul-le-mul-left (d * d * e) k, mul-le-mul-left (d * e * δ) k, mul-le-mul-left (d * d * e) hδ, mul-le-mul-left (d * e * δ) hδ, mul-le-mul-left (d * δ) (hd .1), mul-le-mul-left (d * d) (ha .1), mul-le-mul-left (δ * δ) (hb .1)) in le-of-mul-le-mul-right g some,
+)
 
 -- ---- one component
 record Mirrored (q : Float) (sq : Bool) (δ : ℕ) (a b : Float) (sa sb : Bool) (A B : ℕ) : Type 0 where
   sign : Bool
   size : ℕ
-  has : Num (mirrored q a b) sign size
+  has : Value binary32 (mirrored q a b) sign size
   near : Component sign size sa (D * A) (unlike sq sb) (δ * 2 * B) D (4 * (E * D))
   most : size ≤ D * 4
 
-module _ (q : Float) (sq : Bool) (δ : ℕ) (hq : Num q sq (δ * 2)) (lq : δ ≤ D + 69 * E) (a b : Float) (sa sb : Bool) (A B : ℕ) (ha : Num a sa A) (hb : Num b sb B) (la : A ≤ D + 32 * E) (lb : B ≤ D + 32 * E) where
+module _ (q : Float) (sq : Bool) (δ : ℕ) (hq : Value binary32 q sq (δ * 2)) (lq : δ ≤ D + 69 * E) (a b : Float) (sa sb : Bool) (A B : ℕ) (ha : Value binary32 a sa A) (hb : Value binary32 b sb B) (la : A ≤ D + 32 * E) (lb : B ≤ D + 32 * E) where
   m : Sized binary32 (mul binary32 q b) (unlike sq sb) D (δ * 2 * B) (E * 2) (D * 4)
   m = mul-near binary32 q b sq sb (δ * 2) B 2 hq hb (mirror-product D E δ B (lit≤ tt) lq lb) (lit≤ tt)
 
@@ -87,8 +85,8 @@ module _ (q : Float) (sq : Bool) (δ : ℕ) (hq : Num q sq (δ * 2)) (lq : δ �
       let w = sides sa (not (unlike sq sb)) A (m .size) (D * 4) (room A (m .size) D E (lit≤ tt) la m-le) in
       sub-near binary32 2 (lit≤ tt) a (mul binary32 q b) sa (unlike sq sb) A (m .size) ha (m .has) (w .0) (w .1)
 
-  mirrored-near : Component (mirrored-is .sign) (mirrored-is .size) sa (D * A) (unlike sq sb) (δ * 2 * B) D (E * 2 * D + E * 2 * D)
-  mirrored-near = component-of (mirrored-is .sign) sa (unlike sq sb) (mirrored-is .size) A (m .size) (δ * 2 * B) D E (m .near) (mirrored-is .near)
+  mirrored-near : Component (mirrored-is .sign) (mirrored-is .size) sa (D * A) (unlike sq sb) (δ * 2 * B) D (4 * (E * D))
+  mirrored-near = component-of (mirrored-is .sign) sa (unlike sq sb) (mirrored-is .size) A (m .size) (D * A) (δ * 2 * B) D 0 (E * 2) (E * 2) (exactly A D) (m .near) (mirrored-is .near)
 
   mirrored-of : Mirrored q sq δ a b sa sb A B
   mirrored-of = record { sign = mirrored-is .sign; size = mirrored-is .size; has = mirrored-is .has; near = mirrored-near; most = mirrored-is .most }
@@ -101,9 +99,9 @@ module _ (v w : Vec3) (a b : Exact) (ra : Reads v a) (rb : Reads w b) (na : Norm
   q : Float
   q = mul binary32 two (dot v w)
 
-  q-is : Num q (d .sign) (d .size * 2)
+  q-is : Value binary32 q (d .sign) (d .size * 2)
   unfolding q
-  q-is = subst (λ (s : Bool). Num (mul binary32 two (dot v w)) s (d .size * 2)) (plain-sign (d .sign))
+  q-is = subst (λ (s : Bool). Value binary32 (mul binary32 two (dot v w)) s (d .size * 2)) (plain-sign (d .sign))
       (power-times binary32 two (dot v w) false (d .sign) (d .size) (dot-fits v w) (d .has) 1 two-is (lt-of-le-of-lt (mul-le-mul-right 2 (d .most)) (lit< tt)))
 
   a-sizes : (a .ax * a .ax ≤ D * D + 64 * (E * D)) × ((a .ay * a .ay ≤ D * D + 64 * (E * D)) × (a .az * a .az ≤ D * D + 64 * (E * D)))
@@ -132,6 +130,6 @@ module _ (v w : Vec3) (a b : Exact) (ra : Reads v a) (rb : Reads w b) (na : Norm
   unfolding reflected
   reflected-norm =
       mirror-length D E (d .size) (toward (d .sign) a b) (against (d .sign) a b) (norm reflected) (norm a) (norm b) (lit≤ tt) (d .most)
-      (own-sign (d .sign) (d .size) D (under a b) (above a b) (5 * (E * D)) (d .near)) na nb
+      (by-own-sign (d .sign) (d .size) D (under a b) (above a b) (5 * (E * D)) (d .near)) na nb
       (difference D (4 * (E * D)) (D * 4) D (d .sign) (d .size * 2) a b reflected (at-x .most) (at-y .most) (at-z .most) (at-x .near) (at-y .near) (at-z .near))
       (lit< tt)

@@ -72,31 +72,8 @@ Na = var 19
 abbrev Nb : Expr
 Nb = var 20
 
-abbrev M : Expr
-M = var 21
-
-abbrev Π : Expr
-Π = var 22
-
-abbrev G0 : Expr
-G0 = var 23
-
-abbrev G : Expr
-G = var 24
-
-abbrev A : Expr
-A = var 25
-
-abbrev B : Expr
-B = var 26
-
-abbrev L : Expr
-L = var 27
-
-abbrev R : Expr
-R = var 28
-
--- η² (1 - δ²) + q² is 1
+-- η² (1 - δ²) + q² is 1 within 70 errors: d2 = δ² (n1), m = 1 - d2 (n2), e2 = η² (n3), π = e2 m (n4), k = 1 - π (n5) and the root q of k (n6) are each
+-- rounded once
 pub bent-root : (d e η δ d2 mp mm e2 πp πm k q : ℕ) → η ≤ 4 * d → mp + mm ≤ d → Within (d2 * d) (δ * δ) (e * d) → Within (mp + d2) (d + mm) e → Within (e2 * d) (η * η) (e * 8 * d) → Within (πp * d + e2 * mm) (πm * d + e2 * mp) (e * 8 * d) → Within (k + πp) (d + πm) (e * 16) → Within (q * q) (k * d) (6 * (e * d))
     → Within (η * η * (d * d) + d * d * (q * q)) (d * d * d * d + η * η * (δ * δ)) (70 * (e * d * d * d))
 bent-root d e η δ d2 mp mm e2 πp πm k q hη hm n1 n2 n3 n4 n5 n6 = (
@@ -122,71 +99,8 @@ bent-root d e η δ d2 mp mm e2 πp πm k q hη hm n1 n2 n3 n4 n5 n6 = (
       by (D ⊗ D) (K ⊗ D) (Q ⊗ Q ⊕ lit 6 ⊗ (E ⊗ D)) (n6 .1) done))))))))) tt,
 )
 
--- 1 - δ² is hardly below 0
-pub bent-below : (d e δ d2 m : ℕ) → 100000 * e ≤ d → δ ≤ d + 69 * e → Within (d2 * d) (δ * δ) (e * d) → m + d ≤ d2 + e → 0 < d
-    → m ≤ 150 * e
-bent-below d e δ d2 m small hδ n1 n2 some =
-    le-of-mul-le-mul-right (cert (d ∷ e ∷ 0 ∷ δ ∷ d2 ∷ 0 ∷ 0 ∷ 0 ∷ 0 ∷ 0 ∷ 0 ∷ 0 ∷ 0 ∷ 0 ∷ 0 ∷ 0 ∷ 0 ∷ 0 ∷ 0 ∷ 0 ∷ 0 ∷ m ∷ []) (M ⊗ D) (lit 150 ⊗ E ⊗ D)
-    (by E (lit 100000 ⊗ E) D small (
-    by (D ⊕ lit 69 ⊗ E ⊕ Δ) Δ (D ⊕ lit 69 ⊗ E) hδ (
-    by (lit 1) (D2 ⊗ D) (Δ ⊗ Δ ⊕ E ⊗ D) (n1 .0) (
-    by D (M ⊕ D) (D2 ⊕ E) n2 done)))) tt) some
-
-pub bent-part : (d e m e2 π : ℕ) → e2 ≤ 16 * d → m ≤ 150 * e → Within (π * d) (e2 * m) (e * 8 * d) → 0 < d
-    → π ≤ 2500 * e
-bent-part d e m e2 π he hm n4 some =
-    le-of-mul-le-mul-right (cert (d ∷ e ∷ 0 ∷ 0 ∷ 0 ∷ 0 ∷ 0 ∷ e2 ∷ 0 ∷ 0 ∷ 0 ∷ 0 ∷ 0 ∷ 0 ∷ 0 ∷ 0 ∷ 0 ∷ 0 ∷ 0 ∷ 0 ∷ 0 ∷ m ∷ π ∷ []) (Π ⊗ D) (lit 2500 ⊗ E ⊗ D)
-    (by M E2 (lit 16 ⊗ D) he (
-    by (lit 16 ⊗ D) M (lit 150 ⊗ E) hm (
-    by (lit 1) (Π ⊗ D) (E2 ⊗ M ⊕ E ⊗ lit 8 ⊗ D) (n4 .0) done))) tt) some
-
-pub bent-square : (d e q k : ℕ) → 100000 * e ≤ d → k ≤ d + 2600 * e → Within (q * q) (k * d) (6 * (e * d))
-    → q * q ≤ (d + 1400 * e) * (d + 1400 * e)
-bent-square d e q k small hk n6 =
-    cert (d ∷ e ∷ 0 ∷ 0 ∷ 0 ∷ 0 ∷ 0 ∷ 0 ∷ 0 ∷ 0 ∷ k ∷ q ∷ []) (Q ⊗ Q) ((D ⊕ lit 1400 ⊗ E) ⊗ (D ⊕ lit 1400 ⊗ E))
-    (by D K (D ⊕ lit 2600 ⊗ E) hk (
-    by (lit 1) (Q ⊗ Q) (K ⊗ D ⊕ lit 6 ⊗ (E ⊗ D)) (n6 .0) done)) tt
-
-pub bent-product : (d e η δ : ℕ) → 100000 * e ≤ d → η ≤ 4 * d → δ ≤ d + 69 * e
-    → η * δ ≤ d * d * 8
-bent-product d e η δ small hη hδ =
-    cert (d ∷ e ∷ η ∷ δ ∷ []) (H ⊗ Δ) (D ⊗ D ⊗ lit 8)
-    (by H (lit 100000 ⊗ E) D small (
-    by (lit 2 ⊗ D) H (lit 4 ⊗ D) hη (
-    by H Δ (D ⊕ lit 69 ⊗ E) hδ done))) tt
-
-pub bent-first : (d e η δ g0 : ℕ) → 100000 * e ≤ d → η ≤ 4 * d → δ ≤ d + 69 * e → Within (g0 * d) (η * δ) (e * 4 * d) → 0 < d
-    → g0 ≤ 4 * d + 300 * e
-bent-first d e η δ g0 small hη hδ n some =
-    le-of-mul-le-mul-right (cert (d ∷ e ∷ η ∷ δ ∷ 0 ∷ 0 ∷ 0 ∷ 0 ∷ 0 ∷ 0 ∷ 0 ∷ 0 ∷ 0 ∷ 0 ∷ 0 ∷ 0 ∷ 0 ∷ 0 ∷ 0 ∷ 0 ∷ 0 ∷ 0 ∷ 0 ∷ g0 ∷ []) (G0 ⊗ D) ((lit 4 ⊗ D ⊕ lit 300 ⊗ E) ⊗ D)
-    (by Δ H (lit 4 ⊗ D) hη (
-    by (lit 4 ⊗ D) Δ (D ⊕ lit 69 ⊗ E) hδ (
-    by (lit 1) (G0 ⊗ D) (H ⊗ Δ ⊕ E ⊗ lit 4 ⊗ D) (n .0) done))) tt) some
-
-pub bent-second : (d e g b : ℕ) → 100000 * e ≤ d → g ≤ 5 * d + 2000 * e → b ≤ d + 32 * e
-    → g * b ≤ d * d * 8
-bent-second d e g b small hg hb =
-    cert (d ∷ e ∷ 0 ∷ 0 ∷ 0 ∷ 0 ∷ 0 ∷ 0 ∷ 0 ∷ 0 ∷ 0 ∷ 0 ∷ 0 ∷ 0 ∷ 0 ∷ 0 ∷ 0 ∷ 0 ∷ 0 ∷ 0 ∷ 0 ∷ 0 ∷ 0 ∷ 0 ∷ g ∷ 0 ∷ b ∷ []) (G ⊗ B) (D ⊗ D ⊗ lit 8)
-    (by (B ⊕ D) (lit 100000 ⊗ E) D small (
-    by B G (lit 5 ⊗ D ⊕ lit 2000 ⊗ E) hg (
-    by (lit 6 ⊗ D) B (D ⊕ lit 32 ⊗ E) hb done))) tt
-
-pub bent-third : (d e g b m : ℕ) → 100000 * e ≤ d → g ≤ 5 * d + 2000 * e → b ≤ d + 32 * e → Within (m * d) (g * b) (e * 4 * d) → 0 < d
-    → m ≤ 5 * d + 2300 * e
-bent-third d e g b m small hg hb n some =
-    le-of-mul-le-mul-right (cert (d ∷ e ∷ 0 ∷ 0 ∷ 0 ∷ 0 ∷ 0 ∷ 0 ∷ 0 ∷ 0 ∷ 0 ∷ 0 ∷ 0 ∷ 0 ∷ 0 ∷ 0 ∷ 0 ∷ 0 ∷ 0 ∷ 0 ∷ 0 ∷ m ∷ 0 ∷ 0 ∷ g ∷ 0 ∷ b ∷ []) (M ⊗ D) ((lit 5 ⊗ D ⊕ lit 2300 ⊗ E) ⊗ D)
-    (by E (lit 100000 ⊗ E) D small (
-    by (D ⊕ lit 32 ⊗ E) G (lit 5 ⊗ D ⊕ lit 2000 ⊗ E) hg (
-    by G B (D ⊕ lit 32 ⊗ E) hb (
-    by (lit 1) (M ⊗ D) (G ⊗ B ⊕ E ⊗ lit 4 ⊗ D) (n .0) done)))) tt) some
-
-pub bent-dot : (d e δ : ℕ) → 100000 * e ≤ d → δ ≤ d + 69 * e
-    → δ * δ ≤ d * d * 2
-bent-dot d e δ small hδ =
-    cert (d ∷ e ∷ 0 ∷ δ ∷ []) (Δ ⊗ Δ) (D ⊗ D ⊗ lit 2)
-    (by (D ⊕ E) (lit 100000 ⊗ E) D small (
-    by (D ⊕ lit 69 ⊗ E ⊕ Δ) Δ (D ⊕ lit 69 ⊗ E) hδ done)) tt
-
+-- its squared length is 1 within 4800 errors: from the square of η a - g b (v), g near η δ + q (j), η² (1 - δ²) + q² near 1 (s), δ near the exact dot product
+-- (c) and the squared lengths of a and b near 1 (ha, hb)
 pub bent-length : (d e η q dp dm gp gm cp cm nr na nb : ℕ) → 100000 * e ≤ d → η ≤ 4 * d → dp + dm ≤ d + 69 * e → gp + gm ≤ 5 * d + 2000 * e → q ≤ d + 1400 * e → dp * dm ≤ 0 → gp * gm ≤ 0 → Within (η * η * (d * d) + d * d * (q * q)) (d * d * d * d + η * η * (dp * dp + dm * dm)) (70 * (e * d * d * d)) → Within (d * gp + η * dm) (d * gm + η * dp + d * q) (8 * (e * d)) → Within (dp * d + cm) (dm * d + cp) (5 * (e * d)) → Within na (d * d) (64 * (e * d)) → Within nb (d * d) (64 * (e * d)) → Within (d * d * nr + 2 * (η * (gp * cp + gm * cm))) (η * η * na + (gp * gp + gm * gm) * nb + 2 * (η * (gp * cm + gm * cp))) (3 * (16 * (e * d) * (2 * (d * (11 * d)) + 16 * (e * d)))) → 0 < d * d
     → Within nr (d * d) (4800 * (e * d))
 bent-length d e η q dp dm gp gm cp cm nr na nb small hη hd hg hq zd zg s j c ha hb v some = (

@@ -3,17 +3,56 @@ use mathlib.Core.Path.{_≡_, refl, sym, ap, _∙_}
 use mathlib.Core.List.{[], _∷_}
 use mathlib.Core.Bool.{Bool, true, false, not, cond}
 use Prim.Native.Nat.{ℕ, _+_, _*_, _≤_, _<_}
-use native.Mathlib.Nat.{le-trans, le-of-eq, add-mul, zero-mul, mul-zero, mul-assoc, mul-le-mul, mul-le-mul-right, le-of-mul-le-mul-right}
+use native.Mathlib.Nat.{mul-le-mul-left, le-of-mul-le-mul-right, le-trans, le-of-eq, add-mul, zero-mul, mul-zero, mul-assoc, mul-le-mul, mul-le-mul-right}
 use native.Mathlib.Omega.{arith}
 use lib.Ieee as Ieee
 use Rattle.laws.proofs.Ring.{var, lit, _⊕_, _⊗_}
 use Rattle.laws.proofs.RingNat.{ring}
 use Rattle.laws.specs.Within.{Within}
 use Rattle.laws.proofs.RoundedOperations.{plus, minus}
-use Rattle.vector.proofs.DifferenceLaws.{Component}
-use Rattle.vector.proofs.ReflectRoundings.{times-d}
-use Rattle.vector.proofs.RefractCertificates.{bent-below, bent-part}
 
+-- ---- products of bounds
+-- where δ is hardly above 1, so is d2 = δ² (n1), and 1 - d2 is hardly below 0: m is by how much (n2)
+bent-below : (d e δ d2 m : ℕ) → 100000 * e ≤ d → δ ≤ d + 69 * e → Within (d2 * d) (δ * δ) (e * d) → m + d ≤ d2 + e → 0 < d
+    → m ≤ 150 * e
+bent-below d e δ d2 m small hδ n1 n2 some = let k : m * d ≤ 150 * e * d = omega (arith, mul-le-mul hδ hδ, mul-le-mul-left e small, mul-le-mul-right d n2) in le-of-mul-le-mul-right k some
+
+-- then π = e2 m, rounded (n4), is hardly below 0 either
+bent-part : (d e m e2 π : ℕ) → e2 ≤ 16 * d → m ≤ 150 * e → Within (π * d) (e2 * m) (e * 8 * d) → 0 < d
+    → π ≤ 2500 * e
+bent-part d e m e2 π he hm n4 some = let k : π * d ≤ 2500 * e * d = omega (arith, mul-le-mul he hm) in le-of-mul-le-mul-right k some
+
+-- then k = 1 - π is hardly above 1, and so is its root q (n6)
+pub bent-square : (d e q k : ℕ) → 100000 * e ≤ d → k ≤ d + 2600 * e → Within (q * q) (k * d) (6 * (e * d))
+    → q * q ≤ (d + 1400 * e) * (d + 1400 * e)
+bent-square d e q k small hk n6 = omega (arith, mul-le-mul-right d hk)
+
+-- η times a size of about 1 is at most 8
+pub bent-product : (d e η δ : ℕ) → 100000 * e ≤ d → η ≤ 4 * d → δ ≤ d + 69 * e
+    → η * δ ≤ d * d * 8
+bent-product d e η δ small hη hδ = let k : δ ≤ 2 * d = omega arith in omega (arith, mul-le-mul hη k)
+
+-- and rounded (n) at most 4 and 300 errors
+pub bent-first : (d e η δ g0 : ℕ) → 100000 * e ≤ d → η ≤ 4 * d → δ ≤ d + 69 * e → Within (g0 * d) (η * δ) (e * 4 * d) → 0 < d
+    → g0 ≤ 4 * d + 300 * e
+bent-first d e η δ g0 small hη hδ n some = let k : g0 * d ≤ (4 * d + 300 * e) * d = omega (arith, mul-le-mul hη hδ) in le-of-mul-le-mul-right k some
+
+-- g b is at most 8, b being the size of a component
+pub bent-second : (d e g b : ℕ) → 100000 * e ≤ d → g ≤ 5 * d + 2000 * e → b ≤ d + 32 * e
+    → g * b ≤ d * d * 8
+bent-second d e g b small hg hb = let k : g ≤ 6 * d = omega arith in let l : 4 * b ≤ 5 * d = omega arith in omega (arith, mul-le-mul k l)
+
+-- and rounded (n) at most 5 and 2300 errors
+pub bent-third : (d e g b m : ℕ) → 100000 * e ≤ d → g ≤ 5 * d + 2000 * e → b ≤ d + 32 * e → Within (m * d) (g * b) (e * 4 * d) → 0 < d
+    → m ≤ 5 * d + 2300 * e
+bent-third d e g b m small hg hb n some = let k : m * d ≤ (5 * d + 2300 * e) * d = omega (arith, mul-le-mul hg hb, mul-le-mul-left e small) in le-of-mul-le-mul-right k some
+
+-- δ² is at most 2
+pub bent-dot : (d e δ : ℕ) → 100000 * e ≤ d → δ ≤ d + 69 * e
+    → δ * δ ≤ d * d * 2
+bent-dot d e δ small hδ = let k : 4 * δ ≤ 5 * d = omega arith in omega (arith, mul-le-mul k k)
+
+-- ---- sums
 pub room : (d p : ℕ) → p ≤ d * 16 → d + p ≤ d * 32
 room d p h = omega arith
 
@@ -92,23 +131,6 @@ r-room l m d e k h n = omega arith
 pub r-le : (r l m d e : ℕ) → 100000 * e ≤ d → l ≤ 4 * d + 300 * e → m ≤ 5 * d + 2300 * e → r ≤ l + m + e * 8 → r ≤ 11 * d
 r-le r l m d e k h n o = omega arith
 
-pub component-of : (sr sa sm : Bool) (r l m u v d e : ℕ) → Within (l * d) u (e * 4 * d) → Within (m * d) v (e * 4 * d) → Within (plus sr r + (minus sa l + minus (not sm) m)) (minus sr r + (plus sa l + plus (not sm) m)) (e * 8)
-    → Component sr r sa u sm v d (16 * (e * d))
-component-of sr sa sm r l m u v d e h n w = go sr sa sm (times-d (plus sr r) (minus sa l) (minus (not sm) m) (minus sr r) (plus sa l) (plus (not sm) m) (e * 8) d w)
-  where
-    sixteens : e * 8 * d + (e * 4 * d + e * 4 * d) ≡ 16 * (e * d)
-    sixteens = ring (e ∷ d ∷ []) (var 0 ⊗ lit 8 ⊗ var 1 ⊕ (var 0 ⊗ lit 4 ⊗ var 1 ⊕ var 0 ⊗ lit 4 ⊗ var 1)) (lit 16 ⊗ (var 0 ⊗ var 1)) refl
-
-    go : (sr sa sm : Bool) → Within (plus sr r * d + (minus sa l * d + minus (not sm) m * d)) (minus sr r * d + (plus sa l * d + plus (not sm) m * d)) (e * 8 * d) → Component sr r sa u sm v d (16 * (e * d))
-    go true true true k = omega (arith, sixteens, zero-mul d)
-    go true true false k = omega (arith, sixteens, zero-mul d)
-    go true false true k = omega (arith, sixteens, zero-mul d)
-    go true false false k = omega (arith, sixteens, zero-mul d)
-    go false true true k = omega (arith, sixteens, zero-mul d)
-    go false true false k = omega (arith, sixteens, zero-mul d)
-    go false false true k = omega (arith, sixteens, zero-mul d)
-    go false false false k = omega (arith, sixteens, zero-mul d)
-
 -- ---- g's sign taken out of the mixed term
 pub mixed : (s : Bool) (η g cp cm : ℕ) → η * g * cond s cm cp ≡ η * (plus s g * cp + minus s g * cm)
 mixed true η g cp cm = mul-assoc η g cm ∙ ap (λ (n : ℕ). η * n) (before (g * cm) (0 * cp) (zero-mul cp))
@@ -127,18 +149,5 @@ squares-of false g = omega arith
 pub wider : (a d e : ℕ) → a ≤ d + 32 * e → a ≤ d + 69 * e
 wider a d e h = omega arith
 
--- ---- a product with the ratio, in a unit that is S times finer
 pub four-square : (h d : ℕ) → h ≤ 4 * d → h * h ≤ d * d * 16
 four-square h d l = le-trans (mul-le-mul l l) (le-of-eq (ring (d ∷ []) (lit 4 ⊗ var 0 ⊗ (lit 4 ⊗ var 0)) (var 0 ⊗ var 0 ⊗ lit 16) refl))
-
-pub own-product : (S g h d e w : ℕ) → 0 < d → Within (g * (d * S * (d * S))) (h * h * d) (e * w * (d * S * (d * S))) → Within (g * S * (d * S)) (h * h) (e * S * w * (d * S))
-own-product S g h d e w p k = (le-of-mul-le-mul-right {k = d} (omega (arith, k .0)) p, le-of-mul-le-mul-right {k = d} (omega (arith, k .1)) p)
-
-pub one-product : (S g h n d e w : ℕ) → 0 < d → Within (g * (d * S * d)) (h * n * d) (e * w * (d * S * d)) → Within (g * S * (d * S)) (h * (n * S)) (e * S * w * (d * S))
-one-product S g h n d e w p k = (le-of-mul-le-mul-right {k = d} (omega (arith, mul-le-mul-right S (k .0))) p, le-of-mul-le-mul-right {k = d} (omega (arith, mul-le-mul-right S (k .1))) p)
-
-pub coarse-product : (S h n d : ℕ) → 0 < S → h * (n * S) ≤ d * S * (d * S) * 8 → h * n ≤ d * S * d * 8
-coarse-product S h n d p k = le-of-mul-le-mul-right {k = S} (omega arith) p
-
-pub coarse-bound : (S n d e : ℕ) → 0 < S → n * S ≤ 4 * (d * S) + 300 * (e * S) → n ≤ 4 * d + 300 * e
-coarse-bound S n d e p k = le-of-mul-le-mul-right {k = S} (omega arith) p

@@ -1,25 +1,21 @@
 -- Vectors of exact values, as three signs and three sizes in units of the smallest value: their squared lengths and dot products, and those of the floats
 -- that have these values. Assumes nothing.
-use mathlib.Core.Path.{_≡_, refl, sym, ap, ap₂, _∙_}
-use mathlib.Core.Bool.{Bool, true, false, not}
-use mathlib.Core.List.{[], _∷_}
-use Prim.Native.Nat.{ℕ, _+_, _-_, _*_, _≤_, _<_}
-use native.Mathlib.Nat.{mul-comm, le-trans, le-of-eq, le-of-lt, zero-mul, mul-zero}
+use mathlib.Core.Path.{_≡_, refl, sym, ap₂}
+use mathlib.Core.Bool.{Bool, true, false}
+use Prim.Native.Nat.{ℕ, _+_, _-_, _*_, _≤_}
+use native.Mathlib.Nat.{mul-comm, le-of-eq, zero-mul, mul-zero}
 use native.Mathlib.Omega.{arith}
-use lib.Dec.{T, leb, leb→le, nleb→lt}
-use lib.IntN.{ℤ, pos, negℤ, natAbs, _+ℤ_, _*ℤ_, +ℤ-comm, pos-+ℤ-pos}
-use lib.Ieee.{Float, binary32, ofBits, unlike}
-use Rattle.laws.specs.Exact.{negative, sizeIn, signed, exact}
+use lib.Ieee.{binary32, ofBits, unlike}
+use Rattle.laws.specs.Exact.{negative, sizeIn}
 use Rattle.laws.specs.Within.{Within}
-use Rattle.laws.proofs.RingInt.{var, lit, _⊕_, ⊖_, ringℤ}
-use Rattle.laws.proofs.SignedLaws.{size-of, signed-mul, signed-sub}
 use Rattle.laws.proofs.SizeLaws.{size-of-value, value-of-size}
-use Rattle.laws.proofs.ExactProducts.{value-finite}
+use Rattle.laws.proofs.ValueLaws.{Value, value-finite}
+use Rattle.laws.proofs.SumSigns.{unlike-comm}
 use Rattle.laws.proofs.GridErrorLaws.{unit, halfUlp}
-use Rattle.laws.proofs.RoundedOperations.{Is, plus, minus}
+use Rattle.laws.proofs.RoundedOperations.{plus, minus}
 use Rattle.vector.specs.declared.vec3.Vec3.{Vec3}
 use Rattle.vector.specs.Vectors.{one}
-use Rattle.vector.specs.ExactVectors.{exactDot, F32Vec, FiniteVec}
+use Rattle.vector.specs.ExactVectors.{F32Vec, FiniteVec}
 
 -- 1, and half a unit in the last place between 1 and 2: the error of a rounding there
 abbrev pub D : ℕ
@@ -27,9 +23,6 @@ D = unit binary32
 
 abbrev pub E : ℕ
 E = halfUlp binary32
-
-abbrev pub Num : Float → Bool → ℕ → Type 0
-Num x s n = Is binary32 x s n
 
 pub record Exact : Type 0 where
   pub sx : Bool
@@ -41,9 +34,9 @@ pub record Exact : Type 0 where
 
 -- the vector's components have these values
 pub record Reads (u : Vec3) (v : Exact) : Type 0 where
-  pub at-x : Num (u .x) (v .sx) (v .ax)
-  pub at-y : Num (u .y) (v .sy) (v .ay)
-  pub at-z : Num (u .z) (v .sz) (v .az)
+  pub at-x : Value binary32 (u .x) (v .sx) (v .ax)
+  pub at-y : Value binary32 (u .y) (v .sy) (v .ay)
+  pub at-z : Value binary32 (u .z) (v .sz) (v .az)
 
 -- the squared length
 abbrev pub norm : Exact → ℕ
@@ -94,26 +87,16 @@ pub plain-sign : (s : Bool) → unlike false s ≡ s
 plain-sign true = refl
 plain-sign false = refl
 
-pub own-sign : (s : Bool) → unlike s s ≡ false
-own-sign true = refl
-own-sign false = refl
-
 -- one of three numbers is at most their sum
 pub parts-of : (a b c s : ℕ) → a + b + c ≤ s → (a ≤ s) × ((b ≤ s) × (c ≤ s))
 parts-of a b c s h = (omega arith, (omega arith, omega arith))
 
 -- ---- 1
-pub one-is : Num one false D
+pub one-is : Value binary32 one false D
 unfolding ofBits
 one-is = (refl, refl)
 
 -- ---- the dot product of b and a is that of a and b
-unlike-comm : (s t : Bool) → unlike s t ≡ unlike t s
-unlike-comm true true = refl
-unlike-comm true false = refl
-unlike-comm false true = refl
-unlike-comm false false = refl
-
 pub above-comm : (a b : Exact) → above a b ≡ above b a
 above-comm a b =
     ap₂ _+_ (ap₂ _+_ (ap₂ plus (unlike-comm (a .sx) (b .sx)) (mul-comm (a .ax) (b .ax))) (ap₂ plus (unlike-comm (a .sy) (b .sy)) (mul-comm (a .ay) (b .ay)))) (ap₂ plus (unlike-comm (a .sz) (b .sz)) (mul-comm (a .az) (b .az)))
@@ -153,43 +136,3 @@ reads-finite u v r = record {
   finite-y = value-finite (u .y) (v .sy) (v .ay) D (r .at-y);
   finite-z = value-finite (u .z) (v .sz) (v .az) D (r .at-z);
 }
-
--- ---- the exact dot product, by its terms
-in-parts : (s : Bool) (n : ℕ) → signed s n ≡ pos (plus s n) +ℤ negℤ (pos (minus s n))
-in-parts true n = ringℤ (pos n ∷ []) (⊖ var 0) (lit (pos 0) ⊕ ⊖ var 0) refl
-in-parts false n = ringℤ (pos n ∷ []) (var 0) (var 0 ⊕ ⊖ lit (pos 0)) refl
-
-three-parts : (s t u : Bool) (a b c : ℕ) → signed s a +ℤ signed t b +ℤ signed u c ≡ pos (plus s a + plus t b + plus u c) +ℤ negℤ (pos (minus s a + minus t b + minus u c))
-three-parts s t u a b c =
-    ap₂ _+ℤ_ (ap₂ _+ℤ_ (in-parts s a) (in-parts t b)) (in-parts u c)
-    ∙ ringℤ (pos (plus s a) ∷ pos (minus s a) ∷ pos (plus t b) ∷ pos (minus t b) ∷ pos (plus u c) ∷ pos (minus u c) ∷ [])
-    (var 0 ⊕ ⊖ var 1 ⊕ (var 2 ⊕ ⊖ var 3) ⊕ (var 4 ⊕ ⊖ var 5)) (var 0 ⊕ var 2 ⊕ var 4 ⊕ ⊖ (var 1 ⊕ var 3 ⊕ var 5)) refl
-    ∙ ap₂ (λ (x y : ℤ). x +ℤ negℤ y) (pos-sum (plus s a) (plus t b) (plus u c)) (pos-sum (minus s a) (minus t b) (minus u c))
-  where
-    pos-sum : (a b c : ℕ) → pos a +ℤ pos b +ℤ pos c ≡ pos (a + b + c)
-    pos-sum a b c = ap (λ (x : ℤ). x +ℤ pos c) (pos-+ℤ-pos a b) ∙ pos-+ℤ-pos (a + b) c
-
-difference-size : (a b c : ℕ) → Within a b c → natAbs (pos a +ℤ negℤ (pos b)) ≤ c
-difference-size a b c h = go (leb b a) (leb→le b a) (nleb→lt b a)
-  where
-    go : (t : Bool) → (T t → b ≤ a) → (T (not t) → a < b) → natAbs (pos a +ℤ negℤ (pos b)) ≤ c
-    go true p q = le-trans (le-of-eq (ap natAbs (signed-sub false a b (p tt)) ∙ size-of false (a - b))) (omega arith)
-    go false p q =
-        let l : a ≤ b = le-of-lt (q tt) in
-        le-trans (le-of-eq (ap natAbs (+ℤ-comm (pos a) (negℤ (pos b)) ∙ signed-sub true b a l) ∙ size-of true (b - a))) (omega arith)
-
--- two values' product, by sign and size
-abbrev sign : Float → Float → Bool
-sign x y = unlike (negative x) (negative y)
-
-abbrev product : Float → Float → ℕ
-product x y = sizeIn binary32 x * sizeIn binary32 y
-
-pub dot-size : (u v : Vec3) (c : ℕ) → Dot (exactOf u) (exactOf v) c → natAbs (exactDot u v) ≤ c
-dot-size u v c h =
-    le-trans (le-of-eq (ap natAbs (ap₂ _+ℤ_ (ap₂ _+ℤ_ (term (u .x) (v .x)) (term (u .y) (v .y))) (term (u .z) (v .z))
-    ∙ three-parts (sign (u .x) (v .x)) (sign (u .y) (v .y)) (sign (u .z) (v .z)) (product (u .x) (v .x)) (product (u .y) (v .y)) (product (u .z) (v .z)))))
-    (difference-size (above (exactOf u) (exactOf v)) (under (exactOf u) (exactOf v)) c h)
-  where
-    term : (x y : Float) → exact binary32 x *ℤ exact binary32 y ≡ signed (sign x y) (product x y)
-    term x y = signed-mul (negative x) (negative y) (sizeIn binary32 x) (sizeIn binary32 y)

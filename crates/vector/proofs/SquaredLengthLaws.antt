@@ -1,25 +1,22 @@
 -- A squared length is an f32 and not negative, of any vector. Assumes nothing.
 use mathlib.Core.Path.{_≡_, refl, _∙_}
-use mathlib.Core.Bool.{Bool, true, false, true≢false}
+use mathlib.Core.Bool.{true, false, true≢false}
 use Prim.Native.Nat.{_+_, _*_}
 use native.Mathlib.Nat.{mul-pos}
 use lib.Dec.{T}
 use lib.Ieee.{Float, nan, inf, fin, Format, binary32, up, down, unlike, fits, sum, add, mul}
 use lib.Ieee.Fits.{add-fits, down-pos}
 use Rattle.laws.specs.Exact.{negative}
+use Rattle.laws.proofs.SumSigns.{unlike-self}
 use Rattle.laws.proofs.RoundNearest.{round-nearest}
 use Rattle.vector.specs.declared.vec3.Vec3.{Vec3}
 use Rattle.vector.specs.Products.{dot, lengthSquared}
 
-pub like : (s : Bool) → unlike s s ≡ false
-like true = refl
-like false = refl
-
 pub square-sign : (f : Format) (x : Float) → negative (mul f x x) ≡ false
 unfolding mul negative
 square-sign f nan = refl
-square-sign f (inf s) = like s
-square-sign f (fin s m e) = round-nearest f (unlike s s) (m * up e * (m * up e)) (down e * down e) (mul-pos (down-pos e) (down-pos e)) .sign ∙ like s
+square-sign f (inf s) = unlike-self s
+square-sign f (fin s m e) = round-nearest f (unlike s s) (m * up e * (m * up e)) (down e * down e) (mul-pos (down-pos e) (down-pos e)) .sign ∙ unlike-self s
 
 pub sum-sign : (f : Format) (x y : Float) → negative x ≡ false → negative y ≡ false → negative (add f x y) ≡ false
 unfolding add sum negative

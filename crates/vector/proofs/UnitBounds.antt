@@ -10,12 +10,8 @@ use Rattle.laws.specs.Within.{Within}
 use Rattle.laws.proofs.Ring.{var, lit, _⊕_, _⊗_}
 use Rattle.laws.proofs.RingNat.{ring}
 use Rattle.laws.proofs.Certificates.{by, done, cert-times}
-use Rattle.scalar.proofs.WholeRootLaws.{square-lt, le-of-lt-next}
+use Rattle.laws.proofs.WholeRootLaws.{square-le}
 use Rattle.vector.proofs.SquaredLengthBounds.{Q, Rounds, rounds-under, in-x, in-y, in-z}
-
--- of two squares in order the roots are
-square-le : (x y : ℕ) → x * x ≤ y * y → x ≤ y
-square-le x y h = le-of-lt-next x y (square-lt x (y + 1) (omega arith))
 
 -- ---- the root and the reciprocal: x is R²S, y is R²LD, z is (RM)², e is D⁴
 unit-low : (x y z e : ℕ) → (Q - 7) * y ≤ Q * x → (Q - 2) * z ≤ Q * y → (Q - 1) * (Q - 1) * e ≤ Q * Q * z → (Q - 12) * e ≤ Q * x

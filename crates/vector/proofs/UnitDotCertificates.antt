@@ -3,7 +3,8 @@
 -- Each proof is a linear combination of its hypotheses, whose multipliers the checker verifies. Assumes nothing.
 use mathlib.Core.List.{[], _∷_}
 use Prim.Native.Nat.{ℕ, _+_, _*_, _≤_, _<_}
-use native.Mathlib.Nat.{le-of-mul-le-mul-right}
+use native.Mathlib.Nat.{mul-le-mul, le-of-mul-le-mul-right}
+use native.Mathlib.Omega.{arith}
 use Rattle.laws.proofs.Ring.{var, lit, _⊕_, _⊗_}
 use Rattle.laws.proofs.RingNat.{Expr}
 use Rattle.laws.proofs.Certificates.{cert, by, done}
@@ -69,7 +70,7 @@ Vbm = var 18
 abbrev Vc : Expr
 Vc = var 19
 
--- n·w1
+-- n·w1 is at most 100 errors: n·v1 is at most 76 (s5), r is at most 5/4 (hr), and the components of w1 are those of v1 times r, rounded (ha, hb, hc)
 pub normal-unit : (d e x y z b hp hm r wap wam wb wc : ℕ) → 100000 * e ≤ d → x ≤ d + 32 * e → y ≤ d + 32 * e → z ≤ d + 32 * e → 4 * r ≤ 5 * d → Within (x * hp) (y * b + z * x + x * hm) (76 * (e * d)) → Within (wap * d + hm * r) (hp * r + wam * d) (e * d) → Within (wb * d) (b * r) (e * d) → Within (wc * d) (x * r) (e * d) → 0 < d
     → Within (x * wap) (y * wb + z * wc + x * wam) (100 * (e * d))
 normal-unit d e x y z b hp hm r wap wam wb wc k hx hy hz hr s5 ha hb hc some = (
@@ -95,16 +96,13 @@ normal-unit d e x y z b hp hm r wap wam wb wc k hx hy hz hr s5 ha hb hc some = (
       by Z (Wc ⊗ D) (X ⊗ R ⊕ E ⊗ D) (hc .0) done))))))))) tt) some,
 )
 
--- a size of at most 1 + 32 e, times r
+-- a component x of v1, times r and rounded (hc), is at most 5/4 and 50 errors
 pub size-of : (d e x r wc : ℕ) → 100000 * e ≤ d → x ≤ d + 32 * e → 4 * r ≤ 5 * d → Within (wc * d) (x * r) (e * d) → 0 < d
     → 4 * wc ≤ 5 * d + 200 * e
-size-of d e x r wc k hx hr hc some =
-    le-of-mul-le-mul-right (cert (d ∷ e ∷ x ∷ 0 ∷ 0 ∷ 0 ∷ 0 ∷ 0 ∷ 0 ∷ 0 ∷ r ∷ 0 ∷ 0 ∷ 0 ∷ 0 ∷ wc ∷ []) (lit 4 ⊗ Wc ⊗ D) ((lit 5 ⊗ D ⊕ lit 200 ⊗ E) ⊗ D)
-    (by (lit 5 ⊗ D) X (D ⊕ lit 32 ⊗ E) hx (
-    by X (lit 4 ⊗ R) (lit 5 ⊗ D) hr (
-    by (lit 4) (Wc ⊗ D) (X ⊗ R ⊕ E ⊗ D) (hc .0) done))) tt) some
+size-of d e x r wc k hx hr hc some = let l : 4 * wc * d ≤ (5 * d + 200 * e) * d = omega (arith, mul-le-mul hx hr) in le-of-mul-le-mul-right l some
 
--- w1·w2
+-- w1·w2 is at most 146 errors: v1·v2 is at most 88 (s6), r and r2 are at most 5/4, and the components of w1 and w2 are those of v1 and v2 times r and r2,
+-- rounded (hwa to hqc)
 pub units : (d e x y b hp hm kp km r r2 wap wam wb wc va vbp vbm vc : ℕ) → 100000 * e ≤ d → b ≤ d → hp + hm ≤ d → x ≤ d + 32 * e → 4 * r ≤ 5 * d → 4 * r2 ≤ 5 * d → 16 * (r * r2) ≤ 25 * (d * d) → 4 * va ≤ 5 * d + 200 * e → 4 * (vbp + vbm) ≤ 5 * d + 200 * e → 4 * vc ≤ 5 * d + 200 * e → Within (b * (hp + kp)) (x * y + b * (hm + km)) (88 * (e * d)) → Within (wap * d + hm * r) (hp * r + wam * d) (e * d) → Within (wb * d) (b * r) (e * d) → Within (wc * d) (x * r) (e * d) → Within (va * d) (b * r2) (e * d) → Within (vbp * d + km * r2) (kp * r2 + vbm * d) (e * d) → Within (vc * d) (y * r2) (e * d) → 0 < 4 * (d * d)
     → Within (wap * va + wb * vbp) (wc * vc + wam * va + wb * vbm) (146 * (e * d))
 units d e x y b hp hm kp km r r2 wap wam wb wc va vbp vbm vc k hb hh hx hr hr2 hrr hva hvb hvc s6 hwa hwb hwc hqa hqb hqc some = (

@@ -5,7 +5,8 @@ use Prim.Native.Nat.{ℕ}
 use lib.Ieee as Ieee
 use lib.Ieee.{Float, nan, binary32, ofBits, round, sum, add, mul, div, neg, lt, eq, le}
 use Rattle.laws.specs.Exact.{negative, sizeIn}
-use Rattle.scalar.specs.Root.{root, rootUnits, wholeRoot}
+use Rattle.laws.specs.WholeRoot.{wholeRoot}
+use Rattle.scalar.specs.Root.{root, rootUnits}
 use Rattle.scalar.specs.Sign.{abs, copysign, signum}
 use Rattle.vector.specs.declared.vec3.Vec3.{Vec3}
 use Rattle.vector.specs.Vectors.{vec, zer, one, X, ONE}

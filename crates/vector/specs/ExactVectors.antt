@@ -3,7 +3,7 @@
 use Prim.Native.Nat.{ℕ, _+_, _*_, _^_, _≤_}
 use lib.Dec.{T}
 use lib.IntN.{ℤ, natAbs, _+ℤ_, _*ℤ_}
-use lib.Ieee.{Float, binary32, fits}
+use lib.Ieee.{binary32, fits}
 use lib.Ieee.Scale.{finite}
 use Rattle.laws.specs.Exact.{sizeIn, exact}
 use Rattle.laws.specs.Within.{Within}

@@ -1,6 +1,6 @@
 -- An element by its index (document 01, "Refused, and by whose doing": "10, a component or `test` index above 2"; "Returned: the number, .. zeros").
 use Prim.Native.Nat.{ℕ}
-use mathlib.Core.Bool.{Bool, cond}
+use mathlib.Core.Bool.{cond}
 use lib.Dec.{eqb}
 use lib.Ieee.{Float}
 use Rattle.vector.specs.declared.vec3.Vec3.{Vec3}

@@ -1,5 +1,5 @@
 -- The three length clamps, as src/f32/vec3.rs has them.
-use mathlib.Core.Bool.{Bool, cond}
+use mathlib.Core.Bool.{cond}
 use lib.Ieee.{Float, binary32, mul, lt}
 use Rattle.scalar.specs.Root.{root}
 use Rattle.vector.specs.declared.vec3.Vec3.{Vec3}

@@ -19,6 +19,7 @@ pub mod ExactVectors
 pub mod OrthogonalMeaning
 pub mod Homogeneous
 pub mod Asserts
+pub mod DirectionOf
 pub mod NumericLaws
 pub mod Corners
 pub mod AssertLaws

@@ -40,6 +40,10 @@ normalizeAndLength a =
     let rcp = div binary32 one l in
     cond (usable rcp) (record { normalized = mulNumber a rcp; length = l }) (record { normalized = X; length = zer })
 
+-- 2e-4
+abbrev pub tolerance : Float
+tolerance = ofBits binary32 0x3951b717
+
 -- math::abs(self.length_squared() - 1.0) <= 2e-4
 unfoldable pub isNormalized : Vec3 → Bool
-isNormalized a = le (abs (sub binary32 (lengthSquared a) one)) (ofBits binary32 0x3951b717)
+isNormalized a = le (abs (sub binary32 (lengthSquared a) one)) tolerance

@@ -3,32 +3,28 @@ use mathlib.Core.Path.{_≡_}
 use mathlib.Core.Bool.{true}
 use Prim.Native.Nat.{ℕ, _*_, _^_}
 use lib.Dec.{T}
-use lib.Ieee.{Float, binary32, ofBits, le}
+use lib.Ieee.{Float, binary32, fits, ofBits, le}
 use lib.Ieee.Scale.{finite}
 use Rattle.laws.specs.Exact.{sizeIn}
 use Rattle.laws.specs.Within.{Within}
 use Rattle.vector.specs.declared.vec3.Vec3.{Vec3}
 use Rattle.vector.specs.declared.vec3.normalizing.Normalized.the-variants.{Unit}
 use Rattle.vector.specs.Vectors.{zer}
-use Rattle.vector.specs.Products.{lengthSquared}
+use Rattle.vector.specs.Products.{length, lengthSquared}
 use Rattle.vector.specs.Normalizing.{tryNormalize, isNormalized}
+use Rattle.vector.specs.DirectionOf.{acceptable}
 use Rattle.vector.specs.Optics.{reflect, refract, refractK}
 use Rattle.vector.specs.Orthogonal.{anyOrthonormalPair}
 use Rattle.vector.specs.ExactVectors.{F32Vec, FiniteVec, UnitWithin, Direction, NearlyOrthogonal}
 
--- what "direction of" accepts: a computed `length_squared` of at least 2^-126, and finite
-pub record Accepted (a : Vec3) : Type 0 where
-  pub large : T (le (ofBits binary32 0x00800000) (lengthSquared a))
-  pub number : T (finite (lengthSquared a))
-
--- U: whatever is accepted has a direction, and its exact squared length is within 15 times 2^-24 of 1
+-- U: whatever "direction of" accepts has a direction, and its exact squared length is within 15 times 2^-24 of 1
 pub record HasDirection (a : Vec3) : Type 0 where
   pub direction : Vec3
   pub is : tryNormalize a ≡ Unit direction
   pub unit : UnitWithin 15 direction
 
 abbrev pub LawU : Type 0
-LawU = (a : Vec3) → F32Vec a → Accepted a → HasDirection a
+LawU = (a : Vec3) → F32Vec a → T (acceptable a) → HasDirection a
 
 -- N: the computed `length_squared` of such a direction is within 20 times 2^-24 of 1, and every direction `is_normalized`
 abbrev pub ComputedNear : ℕ → Vec3 → Type 0
@@ -37,14 +33,14 @@ ComputedNear c a = T (finite (lengthSquared a)) × Within (sizeIn binary32 (leng
 abbrev pub LawN : Type 0
 LawN = ((a : Vec3) → UnitWithin 15 a → ComputedNear 20 a) × ((a : Vec3) → Direction a → isNormalized a ≡ true)
 
--- the computed squared length lies between 0.99 and 1.01
-abbrev pub AboutOne : Vec3 → Type 0
-AboutOne a = T (le (ofBits binary32 0x3f7d70a4) (lengthSquared a)) × T (le (lengthSquared a) (ofBits binary32 0x3f8147ae))
+-- a number between 0.99 and 1.01
+abbrev pub AboutOne : Float → Type 0
+AboutOne l = T (le (ofBits binary32 0x3f7d70a4) l) × T (le l (ofBits binary32 0x3f8147ae))
 
--- P: the vectors of `any_orthonormal_pair` have directions, and these and n are nearly orthogonal, two by two
+-- P: the vectors of `any_orthonormal_pair` have a computed `length` between 0.99 and 1.01 and directions, and these and n are nearly orthogonal, two by two
 pub record OrthogonalDirections (n v w : Vec3) : Type 0 where
-  pub first-length : AboutOne v
-  pub second-length : AboutOne w
+  pub first-length : AboutOne (length v)
+  pub second-length : AboutOne (length w)
   pub first : HasDirection v
   pub second : HasDirection w
   pub with-first : NearlyOrthogonal n (first .direction)
@@ -54,18 +50,18 @@ pub record OrthogonalDirections (n v w : Vec3) : Type 0 where
 abbrev pub LawP : Type 0
 LawP = (n : Vec3) → Direction n → OrthogonalDirections n (anyOrthonormalPair n .first) (anyOrthonormalPair n .second)
 
--- M: a reflected direction has a direction
+-- M: a reflected direction has a computed `length_squared` between 0.99 and 1.01, and a direction
 pub record Refused7Never (r : Vec3) : Type 0 where
   pub values : F32Vec r
   pub numbers : FiniteVec r
-  pub length : AboutOne r
+  pub squared-length : AboutOne (lengthSquared r)
   pub direction : HasDirection r
 
 abbrev pub LawM : Type 0
 LawM = (a b : Vec3) → Direction a → Direction b → Refused7Never (reflect a b)
 
--- R: so has a refracted one, for a finite u from 0.25 to 4 and k not below zero
+-- R: so has a refracted one, for an f32 u from 0.25 to 4 and k not below zero
 abbrev pub LawR : Type 0
 LawR =
-    (a b : Vec3) (u : Float) → Direction a → Direction b → T (le (ofBits binary32 0x3e800000) u) → T (le u (ofBits binary32 0x40800000))
+    (a b : Vec3) (u : Float) → Direction a → Direction b → T (fits binary32 u) → T (le (ofBits binary32 0x3e800000) u) → T (le u (ofBits binary32 0x40800000))
     → T (le zer (refractK a b u)) → Refused7Never (refract a b u)

@@ -1,5 +1,5 @@
 -- Divisions with a remainder, roundings, parts and reciprocals of each component, as src/f32/vec3.rs has them.
-use lib.Ieee.{Float, binary32, div}
+use lib.Ieee.{binary32, div}
 use Rattle.scalar.specs.Euclid as Euclid
 use Rattle.scalar.specs.Integral as Integral
 use Rattle.vector.specs.declared.vec3.Vec3.{Vec3}

@@ -1,5 +1,4 @@
 -- Vectors and their constants (document 01, "Masks and vectors": "A vector is three f32 numbers x, y, z; ZERO, ONE and X are fixed vectors of the type").
-use mathlib.Core.Bool.{Bool, cond}
 use lib.Ieee.{Float, binary32, ofBits}
 use Rattle.vector.specs.declared.vec3.Vec3.{Vec3}
 

@@ -1,5 +1,5 @@
 use mathlib.Core.Path.{_≡_, sym, ap, _∙_, subst}
-use Prim.Native.Nat.{ℕ, _-_, _*_, _/_, _%_, _^_}
+use Prim.Native.Nat.{ℕ, _-_, _*_, _%_, _^_}
 use native.Mathlib.Omega.{arith}
 use borrow.Author.Needs.{needs}
 use lib.Dec.{T}
@@ -10,7 +10,7 @@ use Rattle.scalar.specs.Parts.{Decoded}
 use Rattle.scalar.specs.declared.bits.Parts.{Parts}
 use Rattle.scalar.proofs.PartsLaws.{other}
 use Rattle.scalar.proofs.IntegralLaws.{other-stays, whole-stays, whole-is}
-use Rattle.scalar.proofs.IntegralRules.{even-rule, Added, round-added, bit-most, round-word}
+use Rattle.scalar.proofs.IntegralRules.{even-rule, Added, round-added, round-word}
 use Rattle.scalar.proofs.integral.round.Statement.{statement}
 use Rattle.scalar.proofs.integral.round.Tie as tie
 
@@ -65,7 +65,7 @@ shr-signed : tie.Need-shr-signed
 shr-signed c = search needs
 
 signed-requires : tie.Need-signed-requires
-signed-requires c κs = more c .small (c .before .before .before .s .given .0 .1 .0 / 2 ^ c .places .result % 2) (bit-most (c .before .before .before .s .given .0 .1 .0 / 2 ^ c .places .result))
+signed-requires c κs = more c .small _ (omega arith)
 
 returns-3 : tie.Need-returns-3
 returns-3 c =

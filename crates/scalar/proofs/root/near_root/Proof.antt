@@ -1,7 +1,10 @@
-use Prim.Native.Nat.{_+_, _*_, _/_}
+use mathlib.Core.Path.{subst, sym}
+use Prim.Native.Nat.{ℕ, _+_, _*_, _/_, _^_}
 use native.Mathlib.Nat.{div-le-self}
 use native.Mathlib.Omega.{arith}
 use borrow.Author.Needs.{needs}
+use Rattle.laws.specs.WholeRoot.{WholeRoot}
+use Rattle.roots.proofs.FirstRootLaws.{first-root-is}
 use Rattle.scalar.proofs.NewtonLaws.{first-step}
 use Rattle.scalar.proofs.root.near_root.Statement.{statement}
 use Rattle.scalar.proofs.root.near_root.Tie as tie
@@ -43,7 +46,10 @@ add-result-2 : tie.Need-add-result-2
 add-result-2 c = let h = div-le-self (c .before .args .n / 65536) (4 * c .first-root .result + 5) in omega arith
 
 returns : tie.Need-returns
-returns c = first-step (c .before .args .n) (c .first-root .result) (c .before .pre .0) (c .before .pre .1) (c .first-root .ensures)
+returns c =
+    let n = c .before .args .n in
+    first-step n (c .first-root .result) (c .before .pre .0) (c .before .pre .1)
+    (subst (λ (r : ℕ). WholeRoot (64 * (n / 2 ^ 38)) r) (sym (c .first-root .ensures)) (first-root-is (n / 2 ^ 38) (omega arith) (omega arith)))
 
 pub near-root-spec : {M : Type 1} → statement M
 near-root-spec =

@@ -4,7 +4,7 @@ use Prim.Native.Nat.{_+_, _-_, _*_, _/_, _%_, _^_}
 use native.Mathlib.Omega.{arith}
 use borrow.Author.Needs.{needs}
 use lib.Ieee.Nearest.{closest}
-use Rattle.scalar.proofs.WordLaws.{half-word, half-in, carried, closest-most}
+use Rattle.scalar.proofs.WordLaws.{half-word, half-in, carried, quotient-fits}
 use Rattle.scalar.proofs.round_pack.nearest.Statement.{statement}
 use Rattle.scalar.proofs.round_pack.nearest.Tie as tie
 
@@ -36,7 +36,7 @@ found : (c : tie.Start) → (c .args .w + (1 * 2 ^ (c .args .g - 1) % 1844674407
 found c = carried (c .args .w) (c .args .g) (c .pre .1) (c .pre .2)
 
 cast-result : tie.Need-cast-result
-cast-result c = omega (arith, found c, closest-most (c .args .w) (c .args .g) (c .pre .0) (c .pre .1))
+cast-result c = record { fits = quotient-fits _ (c .args .g) (add-result-2 c .fits) (c .pre .1) }
 
 returns : tie.Need-returns
 returns c = found c

@@ -8,10 +8,10 @@ add-result : tie.Need-add-result
 add-result c = search needs
 
 returns : tie.Need-returns
-returns c = simp (le-leb _ _ (c .if1 .taken))
+returns c = simp (le-leb 2147483648 (c .before .args .b) (c .if1 .taken))
 
 returns-2 : tie.Need-returns-2
-returns-2 c = simp (lt-leb _ _ (c .if1 .left), zero-add)
+returns-2 c = simp (lt-leb 2147483648 (c .before .args .b) (c .if1 .left), zero-add)
 
 pub copysign-bits-spec : {M : Type 1} → statement M
 copysign-bits-spec = tie.close (tie.spec add-result returns returns-2)

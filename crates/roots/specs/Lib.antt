@@ -1,0 +1,2 @@
+pub mod FirstRoot
+pub mod RowParts
