@@ -1,0 +1,9 @@
+pub mod ReadLaws
+pub mod WriteLaws
+pub mod ColumnLaws
+pub mod CommandLineLaws
+pub mod AnswerLineLaws
+pub mod FieldMeaningLaws
+pub mod NumeralLaws
+pub mod RoundTripLaws
+pub mod LineMeaningLaws

@@ -1,0 +1,61 @@
+use native.Mathlib.Omega.{arith}
+use lib.ListN.{length}
+use mathlib.Core.Path.{ap, _∙_}
+use Rattle.lines.proofs.AnswerLineLaws.{put-line, put-none, length-put}
+use borrow.Author.Needs.{needs}
+use Rattle.lines.proofs.answer_line.put_six.Statement.{statement}
+use Rattle.lines.proofs.answer_line.put_six.Tie as tie
+
+returns : tie.Need-returns
+returns c = put-none _ _ _ _ _ _ (c .before .before .args .out .now) (c .if1 .taken)
+
+put-field-requires : tie.Need-put-field-requires
+put-field-requires c κs = search needs
+
+put-field-requires-2 : tie.Need-put-field-requires-2
+put-field-requires-2 c κs = search needs
+
+put-field-requires-3 : tie.Need-put-field-requires-3
+put-field-requires-3 c κs = search needs
+
+put-field-requires-4 : tie.Need-put-field-requires-4
+put-field-requires-4 c κs = search needs
+
+put-field-requires-5 : tie.Need-put-field-requires-5
+put-field-requires-5 c κs = search needs
+
+put-field-requires-6 : tie.Need-put-field-requires-6
+put-field-requires-6 c κs = search needs
+
+slice-write-out : tie.Need-slice-write-out
+slice-write-out c = omega arith
+
+returns-2 : tie.Need-returns-2
+returns-2 c =
+    rw (
+      c .before .before .put-field6 .ensures,
+      c .before .before .before .before .before .before .put-field5 .ensures,
+      c .before .before .before .before .before .before .before .before .before .before .put-field4 .ensures,
+      c .before .before .before .before .before .before .before .before .before .before .before .before .before .before .put-field3 .ensures,
+      c .before .before .before .before .before .before .before .before .before .before .before .before .before .before .before .before .before .before .put-field2 .ensures,
+      c .before .before .before .before .before .before .before .before .before .before .before .before .before .before .before .before .before .before .before .before .before .before .put-field .ensures,
+    )
+    (put-line _ _ _ _ _ _ (c .before .before .before .before .before .before .before .before .before .before .before .before .before .before .before .before .before .before .before .before .before .before .before .before .before .before .args .out .now) (c .before .before .before .before .before .before .before .before .before .before .before .before .before .before .before .before .before .before .before .before .before .before .before .before .if1 .left))
+
+same-length : tie.Need-same-length
+same-length c = ap length (returns-2 c) ∙ length-put _ _ _ _ _ _ (c .before .before .before .before .before .before .before .before .before .before .before .before .before .before .before .before .before .before .before .before .before .before .before .before .before .before .args .out .now)
+
+pub put-six-spec : {M : Type 1} → statement M
+put-six-spec =
+    tie.close
+    (tie.spec
+    returns
+    put-field-requires
+    put-field-requires-2
+    put-field-requires-3
+    put-field-requires-4
+    put-field-requires-5
+    put-field-requires-6
+    slice-write-out
+    same-length
+    returns-2)

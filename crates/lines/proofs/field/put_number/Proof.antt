@@ -1,0 +1,72 @@
+use borrow.Author.Needs.{needs}
+use native.Mathlib.Omega.{arith}
+use mathlib.Core.Path.{_≡_, refl}
+use lib.ListN.{length, length-set}
+use Rattle.lines.proofs.WriteLaws.{Spelt, spelt-none, spelt-one, spelt-more, spelt-all}
+use Rattle.lines.proofs.field.put_number.Statement.{statement}
+use Rattle.lines.proofs.field.put_number.Tie as tie
+
+abbrev Inv-loop : tie.InvT-loop
+Inv-loop field₀ n w i₀ rest₀ field i rest = (length field₀ ≡ w) × Spelt w n field i rest
+
+abbrev μ-loop : tie.MeasureT-loop
+μ-loop field₀ n w i₀ rest₀ field i rest = i
+
+returns : tie.Need-returns Inv-loop μ-loop
+returns c = spelt-none (c .before .before .args .field .now) (c .before .before .args .n) (c .if1 .taken)
+
+sub-i : tie.Need-sub-i Inv-loop μ-loop
+sub-i c = omega arith
+
+cast-field : tie.Need-cast-field Inv-loop μ-loop
+cast-field c = omega arith
+
+add-field : tie.Need-add-field Inv-loop μ-loop
+add-field c = omega arith
+
+slice-write-field : tie.Need-slice-write-field Inv-loop μ-loop
+slice-write-field c = omega arith
+
+loop-holds : tie.Need-loop-holds Inv-loop μ-loop
+loop-holds c = (simp length-set, spelt-one (c .before .before .args .field .now) (c .before .before .args .n) _ refl (omega arith))
+
+sub-i-2 : tie.Need-sub-i-2 Inv-loop μ-loop
+sub-i-2 c = omega arith
+
+glyph-requires : tie.Need-glyph-requires Inv-loop μ-loop
+glyph-requires c κs = search needs
+
+slice-write-field-2 : tie.Need-slice-write-field-2 Inv-loop μ-loop
+slice-write-field-2 c = omega (arith, c .before .before .loop .inv .1)
+
+loop-less : tie.Need-loop-less Inv-loop μ-loop
+loop-less c = omega arith
+
+loop-again : tie.Need-loop-again Inv-loop μ-loop
+loop-again c = (c .before .before .loop .inv .0, rw (c .glyph .ensures) (spelt-more _ _ _ _ _ (c .before .before .loop .inv .1) (c .before .loop-test .taken)))
+
+same-length : tie.Need-same-length Inv-loop μ-loop
+same-length c = c .before .loop .inv .1 .long
+
+returns-2 : tie.Need-returns-2 Inv-loop μ-loop
+returns-2 c = spelt-all _ _ _ _ _ (c .before .loop .inv .1) (c .loop-test .left)
+
+pub put-number-spec : {M : Type 1} → statement M
+put-number-spec =
+    tie.close
+    (tie.spec
+    Inv-loop
+    μ-loop
+    returns
+    sub-i
+    cast-field
+    add-field
+    slice-write-field
+    loop-holds
+    sub-i-2
+    glyph-requires
+    slice-write-field-2
+    loop-less
+    loop-again
+    same-length
+    returns-2)

@@ -1,0 +1,17 @@
+-- What functions of this crate promise each other: a number up to the limit, and a field written into a line.
+use Prim.Native.Nat.{ℕ, _+_}
+use mathlib.Core.Bool.{cond}
+use mathlib.Core.List.{List, _++_}
+use lib.Dec.{leb}
+use lib.ListN.{take, drop}
+use Rattle.lines.specs.declared.field.Reading.{Reading}
+use Rattle.lines.specs.declared.field.Reading.the-variants.{Value, Ill}
+use Rattle.lines.specs.Field.{written}
+
+-- "ill formed above 4294967295"
+unfoldable pub limited : ℕ → Reading
+limited n = cond (leb n 4294967295) (Value n) Ill
+
+-- the bytes after n is written into the w columns from `at` on
+unfoldable pub putField : ℕ → ℕ → ℕ → List ℕ → List ℕ
+putField at w n out = take at out ++ (written w n ++ drop (at + w) out)

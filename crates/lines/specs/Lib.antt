@@ -1,0 +1,8 @@
+pub mod Field
+pub mod FieldMeaning
+pub mod Columns
+pub mod ColumnParts
+pub mod CommandLine
+pub mod AnswerLine
+pub mod LineMeaning
+pub mod Corners
