@@ -1,0 +1,19 @@
+mod RunLaws
+pub mod EffectSteps
+pub mod SheetRows
+mod CommandSetLaws
+pub mod ConditionLaws
+pub mod FitsLaws
+pub mod VectorFits
+pub mod SourceLaws
+pub mod DirectionOfLaws
+pub mod RefusalLaws
+pub mod RowLaws
+pub mod ReadLaws
+pub mod PairRows
+pub mod AssertedLaws
+pub mod EffectLaws
+pub mod StepLaws
+pub mod ClaimLaws
+pub mod OutcomeLaws
+pub mod WorkLaws
