@@ -1,0 +1,79 @@
+// Answers the command lines of standard input (document 01, "Lines").
+ghost use Prim.Native.Nat.{_≤_};
+ghost use lib.ListN.{length};
+use libc::STDIN_FILENO;
+use libc::STDOUT_FILENO;
+use stream::Stream;
+
+// The stream after a turn, whether the input has ended, and whether a read or a write has failed.
+struct Turn {
+    stream: Stream,
+    ended: bool,
+    failed: bool,
+}
+
+// Answers the lines that end in the bytes, in as many turns as the answers need room.
+fn answer_all(stream: Stream, bytes: &[u8], out: &mut [u8]) -> Turn
+    requires { ⌜ 43 ≤ length (now out) ⌝ }
+{
+    let mut s = stream;
+    let mut at: usize = 0;
+    while at < bytes.len() {
+        let t = s.feed(&bytes[at..], out);
+        s = t.stream;
+        at += t.took;
+        let put = t.put;
+        if io::write_all(STDOUT_FILENO, &out[..put]) {
+            continue;
+        }
+        return Turn {
+            stream: s,
+            ended: false,
+            failed: true,
+        };
+    }
+    Turn {
+        stream: s,
+        ended: false,
+        failed: false,
+    }
+}
+
+// Reads once, and writes the answers of the lines that ended.
+fn read_once(stream: Stream, chunk: &mut [u8], out: &mut [u8]) -> Turn
+    requires { ⌜ 43 ≤ length (now out) ⌝ }
+{
+    let got = libc::read(STDIN_FILENO, chunk);
+    if got <= 0 {
+        return Turn {
+            stream: stream,
+            ended: true,
+            failed: got < 0,
+        };
+    }
+    let n = io::count(got, chunk);
+    answer_all(stream, &chunk[..n], out)
+}
+
+// A proved loop has to end, so this one counts its turns down, from a number that no run uses up.
+fn main() {
+    let mut stream = Stream::fresh();
+    let mut chunk = [0u8; 65536];
+    let mut out = [0u8; 65536];
+    let mut turns = u64::MAX;
+    let mut ended = false;
+    while !ended {
+        if turns == 0 {
+            return;
+        }
+        turns -= 1;
+        let t = read_once(stream, &mut chunk, &mut out);
+        if t.failed {
+            return;
+        }
+        stream = t.stream;
+        ended = t.ended;
+    }
+    let put = stream.ended(&mut out);
+    io::write_all(STDOUT_FILENO, &out[..put]);
+}

@@ -1,0 +1,9 @@
+pub mod ResponseLaws
+pub mod PieceLaws
+pub mod KeptLineLaws
+pub mod LineFeedLaws
+pub mod InputLaws
+pub mod AnswerLaws
+pub mod FeedLaws
+pub mod HearLaws
+pub mod TurnLaws

@@ -1,0 +1,5 @@
+pub mod Responses
+pub mod Stream
+pub mod Turns
+pub mod Inputs
+pub mod Corners
