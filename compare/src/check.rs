@@ -1,25 +1,30 @@
-//! Runs a program on call lines and compares its answers with the Rust's, byte by byte.
+//! Runs a program on lines and compares its answers with the Rust's, byte by byte.
 
-use crate::calls::called_by;
-use crate::generate::Generator;
-use crate::oracle;
 use std::io::{self, BufRead, BufReader, Write};
 use std::process::{Command, ExitStatus, Stdio};
 use std::sync::mpsc::{sync_channel, Receiver};
 use std::sync::Arc;
 use std::thread;
 
-/// How many lines are made at a time, and how many such pieces wait for the program at most.
-const PIECE: u64 = 65_536;
+/// How many pieces wait for the program at most.
 const AHEAD: usize = 4;
 
-/// How many differences are kept, and how many of one function.
+/// How many differences are kept, and how many of one function or command.
 const KEPT: usize = 20;
 const KEPT_OF_ONE: usize = 2;
 
-/// A call, and the answers to it with their line feeds; an answer that the program did not give is empty.
+/// The Rust's side of a comparison.
+pub trait Rust: Send {
+    /// Appends the answers to whole lines; behind the last line feed stand bytes that end the input.
+    fn answer_all(&mut self, lines: &[u8], out: &mut Vec<u8>);
+
+    /// The number of the function or the command that a line calls.
+    fn number(line: &[u8]) -> Option<u32>;
+}
+
+/// A line, and the answers to it with their line feeds; an answer that the program did not give is empty.
 pub struct Difference {
-    pub call: Vec<u8>,
+    pub line: Vec<u8>,
     pub rust: Vec<u8>,
     pub program: Vec<u8>,
 }
@@ -36,9 +41,15 @@ pub struct Comparison {
     pub ended: ExitStatus,
 }
 
-/// Compares `count` calls, the last of them without its line feed.
-pub fn compare(program: &str, mut calls: Generator, count: u64) -> io::Result<Comparison> {
-    let mut child = Command::new(program).stdin(Stdio::piped()).stdout(Stdio::piped()).spawn()?;
+/// Compares the answers to pieces of the input, each of whole lines but for the last. The program gets each piece in parts of the
+/// sizes that `sizes` gives in turn; the whole piece at once if it gives none.
+pub fn compare<R: Rust>(
+    program: &mut Command,
+    rust: &mut R,
+    pieces: impl Iterator<Item = Vec<u8>>,
+    sizes: &'static [usize],
+) -> io::Result<Comparison> {
+    let mut child = program.stdin(Stdio::piped()).stdout(Stdio::piped()).spawn()?;
     let mut input = child.stdin.take().expect("it is a pipe");
     let output = child.stdout.take().expect("it is a pipe");
     let mut comparison = thread::scope(|scope| {
@@ -47,17 +58,14 @@ pub fn compare(program: &str, mut calls: Generator, count: u64) -> io::Result<Co
         scope.spawn(move || {
             for piece in written {
                 // a program that reads no more is found by its missing answers
-                if input.write_all(&piece).is_err() {
+                if write_parts(&mut input, &piece, sizes).is_err() {
                     break;
                 }
             }
         });
-        let checker = scope.spawn(move || check(checked, BufReader::with_capacity(1 << 16, output)));
-        let mut left = count;
-        while left > 0 {
-            let size = left.min(PIECE);
-            let piece = Arc::new(piece(&mut calls, size, size == left));
-            left -= size;
+        let checker = scope.spawn(move || check(rust, checked, BufReader::with_capacity(1 << 16, output)));
+        for piece in pieces {
+            let piece = Arc::new(piece);
             if to_check.send(piece.clone()).is_err() || to_write.send(piece).is_err() {
                 break;
             }
@@ -69,37 +77,33 @@ pub fn compare(program: &str, mut calls: Generator, count: u64) -> io::Result<Co
     Ok(comparison)
 }
 
-/// The next `size` lines. A whole piece ends with a long line, the last piece without a line feed.
-fn piece(calls: &mut Generator, size: u64, last: bool) -> Vec<u8> {
-    let mut lines = Vec::new();
-    for _ in 1..size {
-        calls.line(&mut lines);
+/// Writes bytes in parts of these sizes.
+fn write_parts(output: &mut impl Write, mut bytes: &[u8], sizes: &[usize]) -> io::Result<()> {
+    for &size in sizes.iter().cycle() {
+        if bytes.is_empty() {
+            break;
+        }
+        let (part, rest) = bytes.split_at(size.min(bytes.len()));
+        output.write_all(part)?;
+        bytes = rest;
     }
-    if size == PIECE {
-        calls.long_line(&mut lines);
-    } else {
-        calls.line(&mut lines);
-    }
-    if last {
-        lines.pop();
-    }
-    lines
+    output.write_all(bytes)
 }
 
 /// Reads the answers to the pieces, and compares them.
-fn check(pieces: Receiver<Arc<Vec<u8>>>, mut answers: impl BufRead) -> io::Result<Comparison> {
+fn check<R: Rust>(rust: &mut R, pieces: Receiver<Arc<Vec<u8>>>, mut answers: impl BufRead) -> io::Result<Comparison> {
     let mut comparison = Comparison::default();
-    let mut rust = Vec::new();
+    let mut right = Vec::new();
     let mut program = Vec::new();
     for piece in pieces {
-        rust.clear();
-        oracle::answer_all(&piece, &mut rust);
-        let count = ends_in(&rust);
+        right.clear();
+        rust.answer_all(&piece, &mut right);
+        let count = ends_in(&right);
         program.clear();
         take_lines(&mut answers, count, &mut program)?;
         comparison.compared += count as u64;
-        if rust != program {
-            comparison.note(&piece, &rust, &program);
+        if right != program {
+            comparison.note(R::number, &piece, &right, &program);
         }
     }
     comparison.spare = answers.read_to_end(&mut program)?;
@@ -108,18 +112,17 @@ fn check(pieces: Receiver<Arc<Vec<u8>>>, mut answers: impl BufRead) -> io::Resul
 
 impl Comparison {
     /// Counts the lines that are different, and keeps the first of them.
-    fn note(&mut self, calls: &[u8], rust: &[u8], program: &[u8]) {
+    fn note(&mut self, number: fn(&[u8]) -> Option<u32>, lines: &[u8], rust: &[u8], program: &[u8]) {
         let mut program = lines_of(program);
-        for (call, rust) in lines_of(calls).zip(lines_of(rust)) {
+        for (line, rust) in lines_of(lines).zip(lines_of(rust)) {
             let program = program.next().unwrap_or_default();
             if rust == program {
                 continue;
             }
             self.different += 1;
-            let number = |call| called_by(call).map(|function| function.number);
-            let of_one = self.first.iter().filter(|kept| number(&kept.call) == number(call)).count();
+            let of_one = self.first.iter().filter(|kept| number(&kept.line) == number(line)).count();
             if self.first.len() < KEPT && of_one < KEPT_OF_ONE {
-                self.first.push(Difference { call: call.to_vec(), rust: rust.to_vec(), program: program.to_vec() });
+                self.first.push(Difference { line: line.to_vec(), rust: rust.to_vec(), program: program.to_vec() });
             }
         }
     }

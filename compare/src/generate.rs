@@ -4,6 +4,9 @@ use crate::calls::{called_by, Form, Function};
 use crate::decimal;
 use crate::values::{float, measure, related, related_vector, unit_vector, vector, Draw, Vector};
 
+/// How many lines a piece has.
+const PIECE: u64 = 65_536;
+
 /// One line in so many is spoiled.
 const SPOILED: u32 = 32;
 
@@ -23,6 +26,24 @@ impl Generator {
     /// The lines of a seed, over some of the functions.
     pub fn new(seed: u64, functions: Vec<&'static Function>) -> Generator {
         Generator { draw: Draw::new(seed), functions, turn: 0 }
+    }
+
+    /// The pieces of `count` lines. A whole piece ends with a long line, the last piece without a line feed.
+    pub fn pieces(mut self, count: u64) -> impl Iterator<Item = Vec<u8>> {
+        (0..count.div_ceil(PIECE)).map(move |piece| {
+            let size = PIECE.min(count - piece * PIECE);
+            let mut lines = Vec::new();
+            (1..size).for_each(|_| self.line(&mut lines));
+            if size == PIECE {
+                self.long_line(&mut lines);
+            } else {
+                self.line(&mut lines);
+            }
+            if (piece + 1) * PIECE >= count {
+                lines.pop();
+            }
+            lines
+        })
     }
 
     /// Appends a line with its line feed.

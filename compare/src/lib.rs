@@ -1,8 +1,8 @@
-//! The Rust of glam, unchanged, and what holds the program `probe` against it.
+//! The Rust of glam, unchanged, and what holds the programs `probe` and `bench` against it.
 //!
 //! glam's files are compiled where they lie, in the folder that build.rs finds. They name each other from the root of their
 //! crate, so they stand at the root of this one, beside stand-ins for what they name and the documents do not hold.
-//! No feature turns glam's assertions on.
+//! The feature `glam-assert` turns glam's assertions on.
 
 #[macro_use]
 #[allow(unused_macros)]
@@ -39,8 +39,14 @@ use f32::vec4::Vec4;
 use standins::{swizzles, BVec3A, BVec4, FloatExt, Quat, Vec2, Vec3A};
 
 pub mod calls;
+pub mod cases;
 pub mod check;
 pub mod decimal;
+pub mod exact;
 pub mod generate;
 pub mod oracle;
+pub mod sheet;
+pub mod sitting;
+mod table;
+pub mod tally;
 pub mod values;

@@ -8,7 +8,7 @@ use std::env;
 use std::error::Error;
 use std::fs;
 use std::io::{self, BufRead, Write};
-use std::process::ExitCode;
+use std::process::{Command, ExitCode};
 use std::time::Instant;
 
 const USAGE: &str = "usage:
@@ -106,7 +106,8 @@ fn sample(mut generator: Generator, count: u64, calls: &str, answers: &str) -> O
 /// Compares, and prints the first differences, the time and the counts.
 fn compare_and_tell(program: &str, generator: Generator, count: u64) -> Outcome {
     let began = Instant::now();
-    let comparison = compare(program, generator, count).map_err(|error| format!("{program}: {error}"))?;
+    let comparison = compare(&mut Command::new(program), &mut oracle::Oracle, generator.pieces(count), &[])
+        .map_err(|error| format!("{program}: {error}"))?;
     let seconds = began.elapsed().as_secs_f64();
     for difference in &comparison.first {
         tell(difference);
@@ -125,8 +126,8 @@ fn compare_and_tell(program: &str, generator: Generator, count: u64) -> Outcome 
 
 /// Prints a difference.
 fn tell(difference: &Difference) {
-    let name = called_by(&difference.call).map_or("no function", |function| function.name);
-    println!("call      {}   ({name})", in_hex(&difference.call));
+    let name = called_by(&difference.line).map_or("no function", |function| function.name);
+    println!("call      {}   ({name})", in_hex(&difference.line));
     println!("the Rust  {}", in_hex(&difference.rust));
     println!("program   {}", in_hex(&difference.program));
 }

@@ -1,12 +1,26 @@
 //! The Rust's answer to a call line, with the refusals of docs/FUNCTIONS.md in their order.
 
-use crate::calls::{find, Form, Function, MOST_ARGUMENTS, MOST_RESULTS};
+use crate::calls::{called_by, find, Form, Function, MOST_ARGUMENTS, MOST_RESULTS};
+use crate::check::Rust;
 use crate::decimal;
 
 const NONE: u32 = 0;
 const MALFORMED: u32 = 1;
 const UNKNOWN: u32 = 2;
 const INDEX: u32 = 10;
+
+/// The Rust's side where `probe` is compared.
+pub struct Oracle;
+
+impl Rust for Oracle {
+    fn answer_all(&mut self, lines: &[u8], out: &mut Vec<u8>) {
+        answer_all(lines, out);
+    }
+
+    fn number(line: &[u8]) -> Option<u32> {
+        called_by(line).map(|function| function.number)
+    }
+}
 
 /// Appends the answers to call lines. Bytes after the last line feed are one more line, a malformed one.
 pub fn answer_all(lines: &[u8], out: &mut Vec<u8>) {

@@ -71,26 +71,26 @@ const EXPONENTS: [i32; 26] =
     [-149, -127, -126, -75, -74, -64, -63, -49, -42, -25, -24, -23, -12, -1, 0, 1, 11, 12, 20, 22, 23, 24, 62, 63, 64, 127];
 
 /// The bits of a computed number. The sign of a computed NaN differs between machines, so that it is drawn.
-fn bits_of(d: &mut Draw, x: f64) -> u32 {
+pub fn bits_of(d: &mut Draw, x: f64) -> u32 {
     if x.is_nan() {
         return d.one_of(&[0x7fc00000, 0xffc00000]);
     }
     (x as f32).to_bits()
 }
 
-fn exact(bits: u32) -> f64 {
+pub fn exact(bits: u32) -> f64 {
     f64::from(f32::from_bits(bits))
 }
 
 /// The number itself, or one at most three steps from it.
-fn near(d: &mut Draw, bits: u32) -> u32 {
+pub fn near(d: &mut Draw, bits: u32) -> u32 {
     if d.once_in(2) {
         return bits;
     }
     bits.wrapping_add(d.between(-3, 3) as u32)
 }
 
-fn around(d: &mut Draw, x: f64) -> u32 {
+pub fn around(d: &mut Draw, x: f64) -> u32 {
     let bits = bits_of(d, x);
     near(d, bits)
 }
@@ -100,7 +100,7 @@ fn either_sign(d: &mut Draw, bits: u32) -> u32 {
 }
 
 /// A power of two, or its product with the root of two.
-fn power(d: &mut Draw) -> f64 {
+pub fn power(d: &mut Draw) -> f64 {
     let exponent = if d.once_in(2) { d.one_of(&EXPONENTS) } else { d.between(-149, 127) };
     let power = 2f64.powi(exponent);
     if d.once_in(4) {
@@ -111,7 +111,7 @@ fn power(d: &mut Draw) -> f64 {
 }
 
 /// A number with an exponent from `low` to `high`, both as in the bits.
-fn with_exponent(d: &mut Draw, low: i32, high: i32) -> u32 {
+pub fn with_exponent(d: &mut Draw, low: i32, high: i32) -> u32 {
     (d.word() & 0x807f_ffff) | (d.between(low, high) as u32) << 23
 }
 
@@ -122,7 +122,7 @@ fn half(d: &mut Draw) -> f64 {
 }
 
 /// A number with few digits, so that products and roots are exact or ties.
-fn short(d: &mut Draw) -> u32 {
+pub fn short(d: &mut Draw) -> u32 {
     let digits = d.below(14);
     with_exponent(d, 97, 157) & (u32::MAX << (23 - digits))
 }
@@ -188,7 +188,7 @@ fn direction(d: &mut Draw) -> [f64; 3] {
 }
 
 /// The vector `a`, moved by `size` into some direction.
-fn moved(d: &mut Draw, a: [f64; 3], size: f64) -> Vector {
+pub fn moved(d: &mut Draw, a: [f64; 3], size: f64) -> Vector {
     let way = direction(d);
     [0, 1, 2].map(|i| bits_of(d, a[i] + way[i] * size))
 }

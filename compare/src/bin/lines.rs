@@ -1,0 +1,84 @@
+//! The command that compare/lines calls: runs a sitting on the plain sheet, tells what it reached, and compares the program `bench` with it.
+
+use compare::check::{compare, Comparison, Rust};
+use compare::sitting::Sitting;
+use compare::tally::Tally;
+use std::env;
+use std::error::Error;
+use std::iter;
+use std::process::{Command, ExitCode};
+
+const USAGE: &str = "usage:
+  compare/lines SEED COUNT    the named lines, then COUNT command lines by the seed, one in 16 of them malformed
+  compare/lines SEED COUNT N  one in N of them malformed; none if N is 0";
+
+const MALFORMED: u32 = 16;
+
+/// Starts a program that the toolchain built.
+const START: &str = concat!(env!("CARGO_MANIFEST_DIR"), "/start");
+
+/// The sizes of the parts in which the program gets its input: about a field, a line, a buffer, and in between.
+const SIZES: [usize; 18] = [1, 65_536, 45, 46, 47, 3, 4_095, 4_096, 4_097, 7, 91, 92, 93, 30_011, 65_535, 1, 65_537, 200_003];
+
+/// How much of a line is printed.
+const WIDTH: usize = 200;
+
+type Outcome = Result<ExitCode, Box<dyn Error>>;
+
+fn main() -> ExitCode {
+    let words: Vec<String> = env::args().skip(1).collect();
+    run(&words.iter().map(String::as_str).collect::<Vec<_>>()).unwrap_or_else(|error| {
+        eprintln!("compare: {error}");
+        ExitCode::from(2)
+    })
+}
+
+fn run(words: &[&str]) -> Outcome {
+    let (seed, count, malformed) = match *words {
+        [seed, count] => (seed, count, MALFORMED),
+        [seed, count, malformed] => (seed, count, malformed.parse()?),
+        _ => return Err(USAGE.into()),
+    };
+    let mut sitting = Sitting::new(seed.parse()?, malformed);
+    let mut named = Vec::new();
+    sitting.named(&mut named);
+    let pieces = iter::once(named).chain(sitting.pieces(count.parse()?));
+    let mut tally = Tally::default();
+    let equal = match env::var_os("BENCH") {
+        Some(program) => {
+            let comparison = compare(Command::new(START).arg(program), &mut tally, pieces, &SIZES)?;
+            print!("{tally}");
+            tell(&comparison)
+        }
+        None => {
+            pieces.for_each(|piece| tally.answer_all(&piece, &mut Vec::new()));
+            print!("{tally}");
+            println!("no program was compared: BENCH names none");
+            true
+        }
+    };
+    Ok(if equal && tally.sound() { ExitCode::SUCCESS } else { ExitCode::FAILURE })
+}
+
+/// Prints the first differences and the counts, and says whether all is equal.
+fn tell(comparison: &Comparison) -> bool {
+    for difference in &comparison.first {
+        println!("line      {}", quoted(&difference.line));
+        println!("the Rust  {}", quoted(&difference.rust));
+        println!("program   {}", quoted(&difference.program));
+    }
+    if comparison.spare > 0 {
+        println!("{} bytes behind the answers to all lines", comparison.spare);
+    }
+    if !comparison.ended.success() {
+        println!("the program ended with {}", comparison.ended);
+    }
+    println!("{} lines compared, {} different", comparison.compared, comparison.different);
+    comparison.different == 0 && comparison.spare == 0 && comparison.ended.success()
+}
+
+fn quoted(line: &[u8]) -> String {
+    let mut text = format!("\"{}\"", line.escape_ascii());
+    text.truncate(WIDTH);
+    text
+}

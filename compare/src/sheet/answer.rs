@@ -1,0 +1,56 @@
+//! Answers of the plain sheet, and why a line or a command is refused.
+
+use super::Row;
+
+/// An answer. The values of the kinds 0 to 3 are bits of f32 numbers.
+#[derive(Clone, Copy, Debug, PartialEq, Eq)]
+pub struct Answer {
+    pub refusal: u32,
+    pub row: u32,
+    pub kind: u32,
+    pub values: [u32; 3],
+}
+
+impl Answer {
+    /// What is returned with a refusal: the number, row 0, kind 0, zeros.
+    pub fn refused(refusal: Refusal) -> Answer {
+        Answer { refusal: refusal as u32, row: 0, kind: 0, values: [0; 3] }
+    }
+
+    /// A row as it is now: its number, kind and numbers.
+    pub fn shows(row: u32, shown: &Row) -> Answer {
+        Answer { refusal: 0, row, kind: shown.kind() as u32, values: shown.numbers().map(f32::to_bits) }
+    }
+
+    /// Row 0, kind 3, the number first.
+    pub fn number(x: f32) -> Answer {
+        Answer { refusal: 0, row: 0, kind: 3, values: [x.to_bits(), 0, 0] }
+    }
+
+    /// Row 0, kind 4, the whole number itself.
+    pub fn whole(n: u32) -> Answer {
+        Answer { refusal: 0, row: 0, kind: 4, values: [n, 0, 0] }
+    }
+}
+
+/// Why a line or a command is refused.
+#[derive(Clone, Copy, Debug, PartialEq, Eq)]
+#[repr(u32)]
+pub enum Refusal {
+    /// Not 45 bytes before a line feed, or a field ill formed.
+    Line = 1,
+    /// A command above 32.
+    Number = 2,
+    /// A used row above 63, or t = 63 in 24.
+    Row = 3,
+    /// A source empty, or no direction in 22 to 24.
+    Source = 4,
+    /// A used value not finite, in 10 not 0 ≤ u ≤ v, in 23 u outside 0.25 to 4.
+    Value = 5,
+    /// A point or number result not finite.
+    Result = 6,
+    /// No direction in 2 and 22 to 24; in 11 and 12 with b a point 1/(b·b) not finite; in 28 a `length_squared` of zero.
+    Direction = 7,
+    /// In 23 `refract`'s k below zero.
+    Reflection = 8,
+}

@@ -1,0 +1,132 @@
+//! Document 01's plain sheet, written from the document over the Rust's own functions: rows, commands, answers, one step.
+
+mod answer;
+mod fields;
+pub mod lines;
+pub mod stream;
+mod work;
+
+pub use answer::{Answer, Refusal};
+pub use fields::{used, Used, COMMANDS};
+
+use crate::Vec3;
+use std::panic::{catch_unwind, AssertUnwindSafe};
+use work::{work, Effect};
+
+/// How many rows a sheet has.
+pub const ROWS: u32 = 64;
+
+/// What a row is.
+#[derive(Clone, Copy, Debug, PartialEq, Eq)]
+#[repr(u32)]
+pub enum Kind {
+    Empty = 0,
+    Point = 1,
+    Direction = 2,
+}
+
+/// A row: its kind and three numbers, +0 where it is empty.
+#[derive(Clone, Copy)]
+pub struct Row {
+    kind: Kind,
+    v: Vec3,
+}
+
+impl Row {
+    const EMPTY: Row = Row { kind: Kind::Empty, v: Vec3::ZERO };
+
+    pub fn kind(&self) -> Kind {
+        self.kind
+    }
+
+    pub fn numbers(&self) -> [f32; 3] {
+        [self.v.x, self.v.y, self.v.z]
+    }
+}
+
+/// A command. The values u, v, w are bits of f32 numbers.
+#[derive(Clone, Copy, Debug, PartialEq, Eq)]
+pub struct Command {
+    pub number: u32,
+    pub t: u32,
+    pub a: u32,
+    pub b: u32,
+    pub values: [u32; 3],
+}
+
+/// The sheet.
+#[derive(Clone)]
+pub struct Sheet {
+    rows: [Row; ROWS as usize],
+}
+
+impl Default for Sheet {
+    fn default() -> Sheet {
+        Sheet::fresh()
+    }
+}
+
+impl Sheet {
+    /// A fresh sheet: all rows are empty.
+    pub fn fresh() -> Sheet {
+        Sheet { rows: [Row::EMPTY; ROWS as usize] }
+    }
+
+    pub fn rows(&self) -> &[Row] {
+        &self.rows
+    }
+
+    /// Runs a command. A refused one changes no row.
+    pub fn run(&mut self, command: &Command) -> Answer {
+        self.step(command).unwrap_or_else(Answer::refused)
+    }
+
+    /// Runs a command, if the Rust does not panic; if it does, no row is changed.
+    pub fn try_run(&mut self, command: &Command) -> Option<Answer> {
+        catch_unwind(AssertUnwindSafe(|| self.run(command))).ok()
+    }
+
+    fn step(&mut self, command: &Command) -> Result<Answer, Refusal> {
+        let (a, b) = self.sources(command)?;
+        let effect = work(command.number, &a, &b, command.values.map(f32::from_bits))?;
+        Ok(match effect {
+            Effect::Empty => self.write(command.t, Row::EMPTY),
+            Effect::Point(v) => self.write(command.t, Row { kind: Kind::Point, v }),
+            Effect::Direction(v) => self.write(command.t, Row { kind: Kind::Direction, v }),
+            Effect::Pair(first, second) => {
+                self.write(command.t + 1, Row { kind: Kind::Direction, v: second });
+                self.write(command.t, Row { kind: Kind::Direction, v: first })
+            }
+            Effect::Number(x) => Answer::number(x),
+            Effect::Whole(n) => Answer::whole(n),
+            Effect::Show => Answer::shows(command.a, &a),
+        })
+    }
+
+    /// The rows a and b, an empty row for one that is not used. Looks for the refusals 2, 3, 4 and 5, in this order.
+    fn sources(&self, command: &Command) -> Result<(Row, Row), Refusal> {
+        let used = used(command.number).ok_or(Refusal::Number)?;
+        if used.row_above(command, ROWS - 1) {
+            return Err(Refusal::Row);
+        }
+        let read = |is_used: bool, row: u32| if is_used { self.rows[row as usize] } else { Row::EMPTY };
+        let (a, b) = (read(used.a, command.a), read(used.b, command.b));
+        let fit = |is_used: bool, row: &Row| match row.kind {
+            Kind::Direction => true,
+            Kind::Point => !used.directions,
+            Kind::Empty => !is_used,
+        };
+        if !fit(used.a, &a) || !fit(used.b, &b) {
+            return Err(Refusal::Source);
+        }
+        if !used.values_allowed(command) {
+            return Err(Refusal::Value);
+        }
+        Ok((a, b))
+    }
+
+    fn write(&mut self, t: u32, row: Row) -> Answer {
+        self.rows[t as usize] = row;
+        Answer::shows(t, &row)
+    }
+}

@@ -1,0 +1,96 @@
+//! Sittings by a seed: command lines that build on rows of earlier ones, reach every outcome of every command, and malformed lines.
+
+mod choose;
+pub mod named;
+mod numbers;
+mod spoil;
+pub mod stored;
+
+use crate::sheet::lines::{read, write_command};
+use crate::sheet::{used, Command, Sheet, COMMANDS};
+use crate::values::{float, Draw};
+use choose::{row_fields, unused_row};
+use numbers::values;
+
+/// How many lines a piece has.
+const PIECE: u64 = 16_384;
+
+/// Numbers of commands that there are not.
+const NO_COMMANDS: [u32; 10] = [33, 34, 40, 63, 64, 99, 100, 255, 256, 999];
+
+pub struct Sitting {
+    draw: Draw,
+    /// The sheet as the lines so far leave it.
+    sheet: Sheet,
+    /// One line in so many is malformed; none if it is 0.
+    malformed: u32,
+}
+
+impl Sitting {
+    pub fn new(seed: u64, malformed: u32) -> Sitting {
+        Sitting { draw: Draw::new(seed), sheet: Sheet::fresh(), malformed }
+    }
+
+    /// The pieces of `count` lines. If there are malformed ones, the last line has no line feed.
+    pub fn pieces(mut self, count: u64) -> impl Iterator<Item = Vec<u8>> {
+        (0..count.div_ceil(PIECE)).map(move |piece| {
+            let size = PIECE.min(count - piece * PIECE);
+            let mut lines = Vec::new();
+            (0..size).for_each(|_| self.line(&mut lines));
+            if self.malformed > 0 && (piece + 1) * PIECE >= count {
+                lines.pop();
+            }
+            lines
+        })
+    }
+
+    /// Appends a line with its line feed.
+    pub fn line(&mut self, out: &mut Vec<u8>) {
+        let command = self.command();
+        let start = out.len();
+        write_command(&command, out);
+        if self.malformed > 0 && self.draw.once_in(self.malformed) {
+            let line = spoil::spoiled(&mut self.draw, &out[start..out.len() - 1]);
+            out.truncate(start);
+            out.extend_from_slice(&line);
+            out.push(b'\n');
+        }
+        self.run(&out[start..out.len() - 1]);
+    }
+
+    fn run(&mut self, line: &[u8]) {
+        if let Some(command) = read(line) {
+            self.sheet.try_run(&command);
+        }
+    }
+
+    /// A command. Points are made more often than the rest is done, so that the rows stay fresh.
+    fn command(&mut self) -> Command {
+        let d = &mut self.draw;
+        match d.below(64) {
+            0 => any_command(d),
+            1 => Command { number: d.one_of(&NO_COMMANDS), ..any_command(d) },
+            2..=16 => self.command_of(1),
+            _ => {
+                let number = d.below(COMMANDS);
+                self.command_of(number)
+            }
+        }
+    }
+
+    /// A command of a number.
+    fn command_of(&mut self, number: u32) -> Command {
+        let d = &mut self.draw;
+        let used = used(number).expect("there is the command");
+        let (t, a, b) = row_fields(d, &self.sheet, number, &used);
+        let rows = [a, b].map(|row| self.sheet.rows()[(row % 64) as usize].numbers().map(f32::to_bits));
+        Command { number, t, a, b, values: values(d, number, &used, rows, self.sheet.rows()) }
+    }
+}
+
+/// A command with any fields.
+fn any_command(d: &mut Draw) -> Command {
+    let number = if d.once_in(2) { d.below(COMMANDS) } else { d.below(1000) };
+    let [t, a, b] = [(); 3].map(|()| unused_row(d));
+    Command { number, t, a, b, values: [(); 3].map(|()| if d.once_in(2) { d.word() } else { float(d) }) }
+}

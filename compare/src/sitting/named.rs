@@ -1,0 +1,103 @@
+//! The lines that every comparison begins with: document 01's listing, the named cases of cases.txt, each field of each command
+//! refused, malformed lines of each kind.
+
+use super::Sitting;
+use crate::cases::{cases, CASES};
+use crate::sheet::lines::write_command;
+use crate::sheet::{Command, COMMANDS};
+
+/// A row that the named cases leave empty, and one that they leave a direction.
+const EMPTY: u32 = 20;
+const DIRECTION: u32 = 12;
+
+/// Document 01's listing.
+pub const LISTING: &str = "  1  0  0  0 1077936128 1082130432          0
+ 26  0  0  0          0          0          0
+  2  1  0  0          0          0          0
+";
+
+/// Lines with a mistake, and some that look like it. Row 63 is emptied first, and shown last.
+const LINES: [&[u8]; 34] = [
+    b"  0 63  0  0          0          0          0",
+    b"",
+    b" ",
+    b"                                             ",
+    b"  1 63  0  0          1          2",
+    b"  1 63  0  0          1          2          ",
+    b"  1 63  0  0          1          2          3 ",
+    b"   1 63  0  0          1          2          3",
+    b"  1 63  0  0          1          2          3\r",
+    b"  1 63  0  0          1          2         3\r",
+    b"\t 1 63  0  0          1          2          3",
+    b"  1 63\t 0  0          1          2          3",
+    b"  1 63 \0  0          1          2          3",
+    b"  1 63  0  0\0         1          2          3",
+    b"  1 63  0  0          1          2          \0",
+    b" 01 63  0  0          1          2          3",
+    b"  1063  0  0          1          2          3",
+    b"  1 63 00  0          1          2          3",
+    b"  1 63  0  0         01          2          3",
+    b"  1 63  0  0          1          2 4294967296",
+    b"  1 63  0  0          1 4294967297          3",
+    b"  1 63  0  0 9999999999          2          3",
+    b"  1 63  0  0          199999999999          3",
+    b"  1 63  0  0          1          204294967295",
+    b"  1 63  0  0          1          2 4294967295",
+    b"  1 63  0  0          1        1 2          3",
+    b"  1 6 3 0  0          1          2          3",
+    b"  163   0  0          1          2          3",
+    b"  1 63  0  0         +1          2          3",
+    b"  1 63  0  0          1         -2          3",
+    b"  1 63  0  0          1          2        1.0",
+    b"  1 6:  0  0          1          2          3",
+    b" 99 63  0  0          1          2         00",
+    b" 32  0 63  0          0          0          0",
+];
+
+/// The bits of 1 and of infinity.
+const ONE: u32 = 0x3f80_0000;
+const INFINITY: u32 = 0x7f80_0000;
+
+/// How long a long line is.
+const LONG: usize = 100_000;
+
+impl Sitting {
+    /// Appends the named lines.
+    pub fn named(&mut self, out: &mut Vec<u8>) {
+        LISTING.lines().for_each(|line| self.given(line.as_bytes(), out));
+        let named = cases(CASES).into_iter().map(|case| case.command);
+        for command in named.chain((0..COMMANDS).flat_map(refused)) {
+            let start = out.len();
+            write_command(&command, out);
+            self.run(&out[start..out.len() - 1]);
+        }
+        LINES.iter().for_each(|line| self.given(line, out));
+        self.given(&[b' '; LONG], out);
+    }
+
+    /// Appends a line that stands here without its line feed.
+    fn given(&mut self, line: &[u8], out: &mut Vec<u8>) {
+        out.extend_from_slice(line);
+        out.push(b'\n');
+        self.run(line);
+    }
+}
+
+/// A command with each of its fields in turn as it must not be: a row above 63, an empty source, a value that is not finite. The
+/// other fields are right, and so is each field that the command does not use.
+fn refused(number: u32) -> Vec<Command> {
+    let right = Command { number, t: 1, a: DIRECTION, b: DIRECTION, values: [ONE; 3] };
+    let mut commands = vec![
+        Command { t: 64, ..right },
+        Command { a: 64, ..right },
+        Command { b: 64, ..right },
+        Command { a: EMPTY, ..right },
+        Command { b: EMPTY, ..right },
+    ];
+    for place in 0..3 {
+        let mut command = right;
+        command.values[place] = INFINITY;
+        commands.push(command);
+    }
+    commands
+}

@@ -1,0 +1,35 @@
+//! The stored sitting: the named lines, then lines by a seed until every command has had every outcome that it can have.
+
+use super::named::LISTING;
+use super::Sitting;
+use crate::check::Rust;
+use crate::tally::Tally;
+
+const SEED: u64 = 1;
+const MALFORMED: u32 = 24;
+
+/// How many lines there are at least, and how many at most.
+const LEAST: u64 = 2500;
+const MOST: u64 = 20_000;
+
+/// The stored sitting. It ends with a good line that has no line feed.
+pub fn stored() -> Vec<u8> {
+    let mut sitting = Sitting::new(SEED, MALFORMED);
+    let mut lines = Vec::new();
+    sitting.named(&mut lines);
+    let mut tally = Tally::default();
+    let mut count = answered(&mut tally, &lines);
+    while count < LEAST || (!tally.missing().is_empty() && count < MOST) {
+        let start = lines.len();
+        sitting.line(&mut lines);
+        count += answered(&mut tally, &lines[start..]);
+    }
+    lines.extend_from_slice(LISTING.lines().next().expect("it has three").as_bytes());
+    lines
+}
+
+/// Answers lines, and counts them.
+fn answered(tally: &mut Tally, lines: &[u8]) -> u64 {
+    tally.answer_all(lines, &mut Vec::new());
+    lines.iter().filter(|&&byte| byte == b'\n').count() as u64
+}

@@ -1,0 +1,61 @@
+//! The table of a sitting: how often each command had each outcome, and which outcomes it can have.
+
+use crate::tally::{Tally, ABOVE, MALFORMED, OUTCOMES};
+use std::fmt;
+
+/// The outcomes in the order in which document 01 checks them.
+const ORDER: [usize; OUTCOMES] = [0, 1, 2, 3, 4, 5, 8, 7, 6];
+
+/// Whether a row of the table can have an outcome.
+pub fn can_have(row: usize, outcome: usize) -> bool {
+    match outcome {
+        1 => row == MALFORMED,
+        2 => row == ABOVE,
+        0 | 3 => row < ABOVE,
+        4 => (2..ABOVE).contains(&row),
+        5 => matches!(row, 1 | 8 | 9 | 10 | 13 | 14 | 23),
+        8 => row == 23,
+        // reflected and refracted directions and pairs always have a direction (laws M, R and P of crates/vector)
+        7 => matches!(row, 2 | 11 | 12 | 28),
+        // smaller, larger and whole numbers and components of finite ones are finite
+        6 => matches!(row, 3..=5 | 8..=15 | 19 | 20 | 25..=28),
+        _ => false,
+    }
+}
+
+/// The table, the worst values, and what should not have been.
+impl fmt::Display for Tally {
+    fn fmt(&self, f: &mut fmt::Formatter) -> fmt::Result {
+        write!(f, "command      done")?;
+        for outcome in &ORDER[1..] {
+            write!(f, "{outcome:>9}")?;
+        }
+        writeln!(f)?;
+        for (row, counts) in self.counts.iter().enumerate() {
+            match row {
+                ABOVE => write!(f, "above 32 ")?,
+                MALFORMED => write!(f, "malformed")?,
+                _ => write!(f, "{row:<9}")?,
+            }
+            for outcome in ORDER {
+                match (counts[outcome], can_have(row, outcome)) {
+                    (0, false) => write!(f, "{:>9}", "-")?,
+                    (0, true) => write!(f, "{:>9}", "none")?,
+                    (count, true) => write!(f, "{count:>9}")?,
+                    (count, false) => write!(f, "{:>9}", format!("!{count}"))?,
+                }
+            }
+            writeln!(f)?;
+        }
+        writeln!(f, "exact squared length of a direction: at most {:.4} times 2^-24 from 1 (64 allowed)", self.length.steps())?;
+        writeln!(f, "exact dot product of 24's directions: at most {:.4} times 2^-24 (256 allowed)", self.dot.steps())?;
+        writeln!(f, "numbers not finite in written rows: {}", self.not_finite)?;
+        if cfg!(feature = "glam-assert") {
+            writeln!(f, "broken assertions of the Rust: {}", self.panics.len())?;
+        }
+        for command in self.panics.iter().take(10) {
+            writeln!(f, "the Rust panicked at {command:?}")?;
+        }
+        Ok(())
+    }
+}

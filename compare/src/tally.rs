@@ -1,0 +1,109 @@
+//! Runs command lines on a plain sheet and keeps account: outcomes of each command, the worst directions, the Rust's assertions.
+
+use crate::check::Rust;
+use crate::exact::{dot, off_one, Size};
+use crate::sheet::lines::{read, write_answer};
+use crate::sheet::{Answer, Command, Kind, Refusal, Sheet, COMMANDS};
+use crate::table::can_have;
+
+/// An outcome is 0 for a command done, or the number of its refusal.
+pub const OUTCOMES: usize = 9;
+
+/// The last two rows of the table: lines with a number above 32, and malformed lines.
+pub const ABOVE: usize = COMMANDS as usize;
+pub const MALFORMED: usize = ABOVE + 1;
+
+/// Demand 3: squared lengths of directions are within 2^-18 of 1, dot products of 24's directions at most 2^-16.
+const LENGTH_BOUND: u32 = 18;
+const DOT_BOUND: u32 = 16;
+
+pub struct Tally {
+    sheet: Sheet,
+    pub counts: [[u64; OUTCOMES]; MALFORMED + 1],
+    /// How far the exact squared length of a direction was from 1, at most.
+    pub length: Size,
+    /// The largest exact dot product of two of the directions that a 24 read and wrote.
+    pub dot: Size,
+    /// Numbers in written rows that are not finite.
+    pub not_finite: u64,
+    /// The commands at which the Rust panicked: where its assertions are on, one of them was broken.
+    pub panics: Vec<Command>,
+}
+
+impl Rust for Tally {
+    fn answer_all(&mut self, lines: &[u8], out: &mut Vec<u8>) {
+        for line in lines.split_inclusive(|&byte| byte == b'\n') {
+            let command = line.strip_suffix(b"\n").and_then(read);
+            write_answer(&self.answer(command), out);
+        }
+    }
+
+    fn number(line: &[u8]) -> Option<u32> {
+        line.strip_suffix(b"\n").and_then(read).map(|command| command.number)
+    }
+}
+
+impl Default for Tally {
+    fn default() -> Tally {
+        let counts = [[0; OUTCOMES]; MALFORMED + 1];
+        let least = Size::default();
+        Tally { sheet: Sheet::fresh(), counts, length: least, dot: least, not_finite: 0, panics: Vec::new() }
+    }
+}
+
+impl Tally {
+    /// Answers the command of a line, or refuses a line that has none.
+    pub fn answer(&mut self, command: Option<Command>) -> Answer {
+        let Some(command) = command else {
+            self.counts[MALFORMED][Refusal::Line as usize] += 1;
+            return Answer::refused(Refusal::Line);
+        };
+        let read = self.sheet.rows().get(command.a as usize).map(|row| row.numbers());
+        let Some(answer) = self.sheet.try_run(&command) else {
+            self.panics.push(command);
+            return Answer::refused(Refusal::Result);
+        };
+        self.counts[(command.number as usize).min(ABOVE)][answer.refusal as usize] += 1;
+        if answer.refusal == 0 && command.number <= 24 {
+            self.look_at(command.t);
+        }
+        if answer.refusal == 0 && command.number == 24 {
+            self.look_at(command.t + 1);
+            let [first, second] = [command.t, command.t + 1].map(|t| self.sheet.rows()[t as usize].numbers());
+            let read = read.expect("a source is a row");
+            for size in [dot(read, first), dot(read, second), dot(first, second)] {
+                self.dot = self.dot.max(size);
+            }
+        }
+        answer
+    }
+
+    /// Looks at a row that was written.
+    fn look_at(&mut self, t: u32) {
+        let row = &self.sheet.rows()[t as usize];
+        self.not_finite += row.numbers().iter().filter(|x| !x.is_finite()).count() as u64;
+        if row.kind() == Kind::Direction {
+            self.length = self.length.max(off_one(row.numbers()));
+        }
+    }
+
+    /// The commands and the outcomes that they can have and did not.
+    pub fn missing(&self) -> Vec<(usize, usize)> {
+        self.cells().filter(|&(row, outcome)| can_have(row, outcome) && self.counts[row][outcome] == 0).collect()
+    }
+
+    /// The commands and the outcomes that they had and should not.
+    pub fn impossible(&self) -> Vec<(usize, usize)> {
+        self.cells().filter(|&(row, outcome)| !can_have(row, outcome) && self.counts[row][outcome] != 0).collect()
+    }
+
+    /// Whether all that demand 3 says of the rows held, and no assertion was broken.
+    pub fn sound(&self) -> bool {
+        let bounded = self.length <= Size::power(LENGTH_BOUND) && self.dot <= Size::power(DOT_BOUND);
+        bounded && self.not_finite == 0 && self.panics.is_empty() && self.impossible().is_empty()
+    }
+
+    fn cells(&self) -> impl Iterator<Item = (usize, usize)> {
+        (0..self.counts.len()).flat_map(|row| (0..OUTCOMES).map(move |outcome| (row, outcome)))
+    }
+}
