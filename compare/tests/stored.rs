@@ -1,12 +1,12 @@
-//! The stored sitting of tests/sitting: its answers are the plain sheet's, and it reaches every outcome of every command.
+//! The stored sitting of crates/bench: its answers are the plain sheet's, and it reaches every outcome of every command.
 
 use compare::check::Rust;
 use compare::sheet::stream::Stream;
 use compare::sitting::named::LISTING;
 use compare::tally::Tally;
 
-const INPUT: &[u8] = include_bytes!("../../tests/sitting/stdin");
-const ANSWERS: &[u8] = include_bytes!("../../tests/sitting/stdout");
+const INPUT: &[u8] = include_bytes!("../../crates/bench/stdin");
+const ANSWERS: &[u8] = include_bytes!("../../crates/bench/stdout");
 
 #[test]
 fn stored_answers_are_the_plain_sheets() {
