@@ -10,7 +10,7 @@ use lib.Dec.{ltb}
 use borrow.Author.Tests.{ltb-true, ltb-false, eq-eqb, ne-eqb, lt-ltb, le-leb, lt-leb}
 use lib.ListN.{length, getD, take, drop, drop-of-length-le, length-drop}
 use lib.Seq.{drop-cons, take-all}
-use Rattle.lines.specs.declared.field.Reading.the-variants.{Value, Ill}
+use Rattle.lines.specs.declared.field.Reading.the-variants.{Ill}
 use Rattle.lines.specs.Field.{digits, decimal, valueFrom, value, leadingZero}
 use Rattle.lines.specs.ColumnParts.{limited}
 

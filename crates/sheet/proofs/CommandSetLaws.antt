@@ -1,12 +1,12 @@
 -- The sets of commands that use b, u, v and w, as bits and as document 01's lists: one test over the numbers below 33, and none from there on. Assumes nothing.
-use mathlib.Core.Path.{_≡_, refl, sym, _∙_}
+use mathlib.Core.Path.{_≡_, refl, sym}
 use mathlib.Core.Bool.{Bool, true, false, _&&_}
 use mathlib.Core.List.{List, [], _∷_}
 use Prim.Native.Nat.{ℕ, zero, suc, _≤_, _<_}
-use native.Mathlib.Nat.{not-suc-le-zero, le-of-suc-le-suc, lt-of-lt-of-le}
+use native.Mathlib.Nat.{not-suc-le-zero, le-of-suc-le-suc}
 use native.Mathlib.Omega.{arith}
-use lib.Dec.{T, eqb, ltb, ltb→lt, nltb→le}
-use borrow.Author.Tests.{le-ltb, lt-ltb, ne-eqb}
+use lib.Dec.{T, ltb, ltb→lt, nltb→le}
+use borrow.Author.Tests.{ne-eqb}
 use Rattle.sheet.specs.Fields.{among}
 use Rattle.sheet.specs.CommandSets.{inSet}
 

@@ -1,5 +1,5 @@
 -- A step by the effect of its command: refused early, refused late or done, and on 64 rows. Assumes nothing.
-use Prim.Native.Nat.{ℕ, suc, _+_, _≤_, _<_}
+use Prim.Native.Nat.{ℕ, _+_, _<_}
 use mathlib.Core.Path.{_≡_, refl, sym, ap, ap₂, _∙_, subst}
 use mathlib.Core.Bool.{Bool, true, false, cond}
 use native.Mathlib.Omega.{arith}
@@ -12,9 +12,9 @@ use Rattle.sheet.specs.declared.rows.Row.{Row}
 use Rattle.sheet.specs.declared.rows.Sheet.{Sheet}
 use Rattle.sheet.specs.declared.work.Action.{Action}
 use Rattle.sheet.specs.Rows.{ModelRow, Model, rowOf, modelOf, rowAt, written}
-use Rattle.sheet.specs.Fields.{Sources, sources}
-use Rattle.sheet.specs.Refusals.{first, refusals, refusalOf, unknown, noRow, badSource, badValue, noRefraction, noDirection, notFinite}
-use Rattle.sheet.specs.Answers.{ModelAnswer, refused, shown}
+use Rattle.sheet.specs.Fields.{sources}
+use Rattle.sheet.specs.Refusals.{first, refusals, refusalOf, unknown, noRow, badSource, badValue}
+use Rattle.sheet.specs.Answers.{refused, shown}
 use Rattle.sheet.specs.Model.{Effect, Puts, PutsTwo, Tells, Stepped, effectOf, applied, stepOf}
 use Rattle.sheet.specs.Work.{earlyOf, lateOf, workOf, effectBy}
 use Rattle.sheet.specs.Step.{effectAt, putWithin, within}

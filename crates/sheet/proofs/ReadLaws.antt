@@ -1,8 +1,8 @@
 -- What refusal 4 leaves of the sources of a command that is done: directions in 22 to 24, no empty row elsewhere. Assumes nothing.
 use Prim.Native.Nat.{ℕ}
 use mathlib.Core.Path.{_≡_, subst}
-use mathlib.Core.Bool.{Bool, true, false, cond, not, _&&_}
-use lib.Dec.{eqb, leb}
+use mathlib.Core.Bool.{Bool, true, false, cond, not}
+use lib.Dec.{eqb}
 use borrow.Author.Tests.{eqb-true, eqb-false, not-false}
 use Rattle.vector.specs.ExactVectors.{Direction}
 use Rattle.sheet.specs.declared.command.Command.{Command}

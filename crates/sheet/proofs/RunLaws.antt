@@ -10,7 +10,6 @@ use borrow.Author.Tests.{ltb-false}
 use lib.ListN.{length, drop, length-append, length-drop}
 use lib.Seq.{sets, sets-eq, take-append-seam, drop-append-add, drop-drop}
 use Rattle.sheet.specs.declared.command.Command.{Command}
-use Rattle.sheet.specs.declared.command.Answer.{Answer}
 use Rattle.sheet.specs.declared.rows.Sheet.{Sheet}
 use Rattle.sheet.specs.declared.step.Outcome.{Outcome}
 use Rattle.sheet.specs.Rows.{Model, fresh, modelOf}

@@ -7,7 +7,7 @@ use lib.ListN.{length, getD, set, length-map, List·getD-map, List·getD-eq-defa
 use lib.Seq.{set-out}
 use Rattle.sheet.specs.declared.rows.Row.{Row}
 use Rattle.sheet.specs.declared.rows.Sheet.{Sheet}
-use Rattle.sheet.specs.Rows.{ModelRow, Model, empty, rowOf, modelOf, rowAt, written}
+use Rattle.sheet.specs.Rows.{ModelRow, empty, rowOf, modelOf, rowAt, written}
 
 -- within the list, what stands for the elements past the end does not matter
 getD-any : {A : Type 0} (l : List A) (i : ℕ) (d e : A) → i < length l → getD l i d ≡ getD l i e

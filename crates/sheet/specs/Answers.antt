@@ -1,7 +1,6 @@
 -- The answers of the reference model (document 01, "The plain sheet": "An answer has refusal number, row, kind and three values").
 use Prim.Native.Nat.{ℕ}
 use lib.Ieee.{Float, binary32, toBits}
-use Rattle.vector.specs.declared.vec3.Vec3.{Vec3}
 use Rattle.sheet.specs.declared.command.Answer.{Answer}
 use Rattle.sheet.specs.declared.command.Answer.the-variants.{Refused, Shown, Number, Whole}
 use Rattle.sheet.specs.Rows.{ModelRow}

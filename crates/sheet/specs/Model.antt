@@ -1,6 +1,6 @@
 -- The reference model: document 01's plain sheet, one command and a whole list.
 use Prim.Native.Nat.{ℕ, _+_}
-use mathlib.Core.Bool.{Bool, cond}
+use mathlib.Core.Bool.{cond}
 use mathlib.Core.List.{List, [], _∷_}
 use lib.Dec.{eqb}
 use Rattle.vector.specs.declared.vec3.Vec3.{Vec3}
@@ -8,7 +8,7 @@ use Rattle.vector.specs.declared.vec3.normalizing.Normalized.{Normalized}
 use Rattle.vector.specs.declared.vec3.normalizing.Normalized.the-variants.{Unit, Nothing}
 use Rattle.vector.specs.Vectors.{ZERO}
 use Rattle.sheet.specs.declared.command.Command.{Command}
-use Rattle.sheet.specs.Rows.{ModelRow, Model, empty, point, direction, rowAt, written, fresh}
+use Rattle.sheet.specs.Rows.{ModelRow, Model, empty, point, direction, written, fresh}
 use Rattle.sheet.specs.Fields.{Sources, sources}
 use Rattle.sheet.specs.Results.{givesPoint, givesDirection, givesNumber, givesWhole, directionOf, pointOf, aimOf, firstAim, secondAim, numberOf, wholeOf}
 use Rattle.sheet.specs.Refusals.{refusalOf}

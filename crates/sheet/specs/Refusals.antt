@@ -5,7 +5,6 @@ use mathlib.Core.List.{List, [], _∷_}
 use lib.Dec.{eqb, leb, ltb}
 use lib.Ieee.{Float, binary32, ofBits, lt, le}
 use lib.Ieee.Scale.{finite}
-use Rattle.vector.specs.declared.vec3.Vec3.{Vec3}
 use Rattle.vector.specs.declared.vec3.normalizing.Normalized.{Normalized}
 use Rattle.vector.specs.declared.vec3.normalizing.Normalized.the-variants.{Unit, Nothing}
 use Rattle.vector.specs.Vectors.{zer}
@@ -14,8 +13,7 @@ use Rattle.vector.specs.Projections.{otherLenSqRcp}
 use Rattle.vector.specs.Optics.{refractK}
 use Rattle.vector.specs.AssertLaws.{zeroLength}
 use Rattle.sheet.specs.declared.command.Command.{Command}
-use Rattle.sheet.specs.Rows.{Model}
-use Rattle.sheet.specs.Fields.{Sources, sources, usesT, usesA, usesB, usesU, usesV, usesW}
+use Rattle.sheet.specs.Fields.{Sources, usesT, usesA, usesB, usesU, usesV, usesW}
 use Rattle.sheet.specs.Results.{givesPoint, givesDirection, givesNumber, directionOf, pointOf, aimOf, firstAim, secondAim, numberOf}
 
 -- "2, command above 32"

@@ -5,7 +5,7 @@ use lib.Dec.{eqb, leb}
 use lib.Ieee.{Float}
 use Rattle.vector.specs.declared.vec3.Vec3.{Vec3}
 use Rattle.vector.specs.declared.vec3.normalizing.Normalized.{Normalized}
-use Rattle.vector.specs.declared.vec3.normalizing.Normalized.the-variants.{Unit, Nothing}
+use Rattle.vector.specs.declared.vec3.normalizing.Normalized.the-variants.{Nothing}
 use Rattle.vector.specs.Vectors.{vec}
 use Rattle.vector.specs.Operators.{add, sub, mulNumber}
 use Rattle.vector.specs.Elements.{min, max, minPosition, maxPosition}

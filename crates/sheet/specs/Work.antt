@@ -1,7 +1,7 @@
 -- A command in two parts: the refusals that are known from its fields and its sources' kinds (2, 3, 4, 5), and the rest, which its work decides (8, 7, 6).
 use Prim.Native.Nat.{ℕ}
 use mathlib.Core.Bool.{cond}
-use mathlib.Core.List.{List, [], _∷_}
+use mathlib.Core.List.{[], _∷_}
 use lib.Dec.{eqb}
 use lib.Ieee.{binary32, ofBits}
 use Rattle.sheet.specs.declared.command.Command.{Command}

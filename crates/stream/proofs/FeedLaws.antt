@@ -1,6 +1,6 @@
 -- Feeding bytes, some at a time: what holds between two turns of the loop. Assumes nothing.
 use Prim.Native.Nat.{ℕ, zero, suc, _+_, min, _≤_, _<_}
-use mathlib.Core.Bool.{Bool, true, false, cond}
+use mathlib.Core.Bool.{Bool, true, false}
 use mathlib.Core.Path.{_≡_, refl, sym, ap, _∙_}
 use mathlib.Core.List.{List, [], _∷_, _++_, append-assoc, append-nil}
 use native.Mathlib.Omega.{arith}
@@ -15,8 +15,8 @@ use Rattle.sheet.specs.Answers.{ModelAnswer, refused}
 use Rattle.sheet.specs.Model.{Stepped, stepOf}
 use Rattle.stream.specs.Responses.{response, answerText}
 use Rattle.stream.proofs.PieceLaws.{feed-append-held, feed-append-text}
-use Rattle.stream.specs.Stream.{Held, held, pushed, Fed, byteFed, feedOf, Feeds}
-use Rattle.stream.specs.Turns.{toldAt, ranOf, IsRun, IsIll, IsByte}
+use Rattle.stream.specs.Stream.{Held, held, pushed, byteFed, feedOf, Feeds}
+use Rattle.stream.specs.Turns.{toldAt, IsRun, IsIll, IsByte}
 use Rattle.stream.proofs.AnswerLaws.{length-text}
 
 -- ---- the bytes of a line that are held

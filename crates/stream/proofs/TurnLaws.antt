@@ -2,11 +2,11 @@
 use Prim.Native.Nat.{ℕ, _+_, _%_, _≤_, _<_}
 use mathlib.Core.Path.{_≡_, refl, sym, ap, _∙_, subst}
 use mathlib.Core.Bool.{Bool, true, false, cond}
-use mathlib.Core.List.{List, [], _∷_, _++_}
+use mathlib.Core.List.{List}
 use native.Mathlib.Omega.{arith}
 use borrow.Author.Tests.{ltb-true, ltb-false}
 use lib.Dec.{ltb}
-use lib.ListN.{length, getD, take, drop, set, length-set}
+use lib.ListN.{length, getD, take, set, length-set}
 use Rattle.vector.specs.declared.vec3.Vec3.{Vec3}
 use Rattle.sheet.specs.declared.rows.Row.{Row}
 use Rattle.sheet.specs.declared.rows.Sheet.{Sheet}
@@ -14,9 +14,9 @@ use Rattle.sheet.specs.declared.command.Command.{Command}
 use Rattle.sheet.specs.declared.command.Answer.{Answer}
 use Rattle.sheet.specs.declared.work.Action.{Action}
 use Rattle.sheet.specs.declared.work.Action.the-variants.{Tell, Put, PutTwo}
-use Rattle.sheet.specs.Rows.{ModelRow, Model, empty, direction, rowOf, modelOf, rowAt, written}
+use Rattle.sheet.specs.Rows.{empty, direction, rowOf, modelOf, rowAt}
 use Rattle.sheet.specs.Answers.{ModelAnswer, refused, shown, answerOf}
-use Rattle.sheet.specs.Model.{Stepped, applied, stepOf}
+use Rattle.sheet.specs.Model.{applied, stepOf}
 use Rattle.sheet.specs.Work.{effectBy}
 use Rattle.sheet.specs.Step.{effectAt, within}
 use Rattle.sheet.proofs.SheetRows.{row-read, row-none, row-written}

@@ -5,7 +5,7 @@ use mathlib.Core.Bool.{cond}
 use mathlib.Core.List.{List, [], _∷_, _++_}
 use lib.Dec.{eqb, ltb}
 use lib.ListN.{length, take, drop}
-use Rattle.sheet.specs.Rows.{Model, fresh, modelOf}
+use Rattle.sheet.specs.Rows.{Model, modelOf}
 use Rattle.sheet.specs.Answers.{refused}
 use Rattle.stream.specs.declared.Stream.{Stream}
 use Rattle.stream.specs.Responses.{lineResponse, answerText}
