@@ -3,6 +3,8 @@ ghost use mathlib.Core.Path.{_≡_};
 ghost use Rattle.scalar.specs.Root as Root;
 ghost use Rattle.scalar.specs.Fused as Fused;
 ghost use Rattle.scalar.specs.Integral as Integral;
+ghost use Rattle.sheet.specs.Run.{listRefusal};
+ghost use Rattle.capi.specs.Lists.{answered};
 
 #[no_mangle]
 pub extern "C" fn bench_sqrt(x: f32) -> f32
@@ -37,4 +39,15 @@ pub extern "C" fn bench_round(x: f32) -> f32
     ensures { λ r. ⌜ r ≡ Integral.roundEven x ⌝ }
 {
     scalar::integral::round(x)
+}
+
+// Runs a list of commands from a fresh sheet, seven numbers each, and writes their answers, six numbers each. Gives 0, or the number by which the list is
+// refused: 9 where too few numbers are lent, 1 where the list ends within a command.
+#[no_mangle]
+pub extern "C" fn bench_run(commands: &[u32], answers: &mut [u32]) -> u32
+    ensures { λ r. ⌜ r ≡ listRefusal (now (commands .entry)) (now (answers .entry)) ⌝ }
+    ensures { λ _. ⌜ now (answers .exit) ≡ answered (now (commands .entry)) (now (answers .entry)) ⌝ }
+{
+    let r = sheet::run::run_all(commands, answers);
+    r.refusal
 }
