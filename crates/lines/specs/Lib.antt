@@ -1,3 +1,4 @@
+-- The definitions of crate lines, file by file.
 pub mod Field
 pub mod FieldMeaning
 pub mod Columns

@@ -8,6 +8,7 @@ ghost use Rattle.lines.specs.CommandLine as CommandLine;
 use crate::field::Reading;
 use crate::field::digits;
 use crate::field::number;
+use crate::narrow;
 
 // Reads the numbers of a line into the first seven places of f, and answers whether it did: it does not where the line is ill formed,
 // nor where fewer than seven places are lent. An enum with the numbers in its case would have them copied once more.
@@ -46,16 +47,16 @@ pub fn fields(line: &[u8], f: &mut [u32]) -> bool
     true
 }
 
-// The number of the three columns from `at` on. The width is a constant, so that the loops over it are unrolled.
+// The number of the three columns from `at` on.
 fn field_of_3(line: &[u8], at: usize) -> Reading
     requires { ⌜ at + 3 ≤ length (now line) ⌝ }
     ensures { λ r. ⌜ r ≡ Columns.fieldAt at 3 (now (line .entry)) ⌝ }
 {
     let end = at + 3;
-    number(digits(&line[at..end]))
+    narrow::number(&line[at..end])
 }
 
-// The number of the eleven columns from `at` on.
+// The number of the eleven columns from `at` on. The width is a constant, so that the loops over it are unrolled.
 fn field_of_11(line: &[u8], at: usize) -> Reading
     requires { ⌜ at + 11 ≤ length (now line) ⌝ }
     ensures { λ r. ⌜ r ≡ Columns.fieldAt at 11 (now (line .entry)) ⌝ }

@@ -2,3 +2,4 @@
 pub mod answer_line;
 pub mod command_line;
 pub mod field;
+mod narrow;

@@ -1,3 +1,4 @@
+-- `lines::answer_line::put_six` meets its contract. Assumes nothing.
 use native.Mathlib.Omega.{arith}
 use lib.ListN.{length}
 use mathlib.Core.Path.{ap, _∙_}

@@ -1,3 +1,4 @@
+-- `lines::command_line::field_of_11` meets its contract. Assumes nothing.
 use mathlib.Core.Path.{ap, _∙_}
 use Rattle.lines.specs.Field.{number}
 use Rattle.lines.proofs.ColumnLaws.{read-part}

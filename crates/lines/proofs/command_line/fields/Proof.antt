@@ -1,3 +1,4 @@
+-- `lines::command_line::fields` meets its contract. Assumes nothing.
 use mathlib.Core.Path.{sym, _∙_}
 use Rattle.lines.proofs.ColumnLaws.{ill-here, ill-later}
 use Rattle.lines.proofs.CommandLineLaws.{few-lent, other-length, ill-field, read-seven, is-read}

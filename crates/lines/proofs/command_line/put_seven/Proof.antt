@@ -1,3 +1,4 @@
+-- `lines::command_line::put_seven` meets its contract. Assumes nothing.
 use native.Mathlib.Omega.{arith}
 use mathlib.Core.List.{[], _∷_}
 use lib.ListN.{length-set}

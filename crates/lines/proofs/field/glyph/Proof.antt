@@ -1,3 +1,4 @@
+-- `lines::field::glyph` meets its contract. Assumes nothing.
 use borrow.Author.Tests.{eq-eqb, ne-eqb}
 use Rattle.lines.specs.Field.{glyph}
 use borrow.Author.Needs.{needs}

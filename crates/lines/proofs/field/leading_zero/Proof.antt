@@ -1,3 +1,4 @@
+-- `lines::field::leading_zero` meets its contract. Assumes nothing.
 use borrow.Author.Tests.{le-ltb, lt-ltb}
 use Rattle.lines.specs.Field.{leadingZero}
 use borrow.Author.Needs.{needs}

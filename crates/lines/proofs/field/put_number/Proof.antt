@@ -1,8 +1,9 @@
+-- `lines::field::put_number` meets its contract. Assumes nothing.
 use borrow.Author.Needs.{needs}
 use native.Mathlib.Omega.{arith}
-use mathlib.Core.Path.{_≡_, refl}
+use mathlib.Core.Path.{_≡_, refl, ap, _∙_}
 use lib.ListN.{length, length-set}
-use Rattle.lines.proofs.WriteLaws.{Spelt, spelt-none, spelt-one, spelt-more, spelt-all}
+use Rattle.lines.proofs.WriteLaws.{Spelt, spelt-none, spelt-one, spelt-more, spelt-all, length-written}
 use Rattle.lines.proofs.field.put_number.Statement.{statement}
 use Rattle.lines.proofs.field.put_number.Tie as tie
 
@@ -14,6 +15,15 @@ abbrev μ-loop : tie.MeasureT-loop
 
 returns : tie.Need-returns Inv-loop μ-loop
 returns c = spelt-none (c .before .before .args .field .now) (c .before .before .args .n) (c .if1 .taken)
+
+put-ten-requires : tie.Need-put-ten-requires Inv-loop μ-loop
+put-ten-requires c κs = search needs
+
+returns-2 : tie.Need-returns-2 Inv-loop μ-loop
+returns-2 c = rw (c .before .before .before .before .before .if2 .taken) (c .before .before .put-ten .ensures)
+
+same-length : tie.Need-same-length Inv-loop μ-loop
+same-length c = ap length (returns-2 c) ∙ length-written _ _
 
 sub-i : tie.Need-sub-i Inv-loop μ-loop
 sub-i c = omega arith
@@ -28,7 +38,7 @@ slice-write-field : tie.Need-slice-write-field Inv-loop μ-loop
 slice-write-field c = omega arith
 
 loop-holds : tie.Need-loop-holds Inv-loop μ-loop
-loop-holds c = (simp length-set, spelt-one (c .before .before .args .field .now) (c .before .before .args .n) _ refl (omega arith))
+loop-holds c = (simp length-set, spelt-one (c .before .before .before .args .field .now) (c .before .before .before .args .n) _ refl (omega arith))
 
 sub-i-2 : tie.Need-sub-i-2 Inv-loop μ-loop
 sub-i-2 c = omega arith
@@ -45,11 +55,11 @@ loop-less c = omega arith
 loop-again : tie.Need-loop-again Inv-loop μ-loop
 loop-again c = (c .before .before .loop .inv .0, rw (c .glyph .ensures) (spelt-more _ _ _ _ _ (c .before .before .loop .inv .1) (c .before .loop-test .taken)))
 
-same-length : tie.Need-same-length Inv-loop μ-loop
-same-length c = c .before .loop .inv .1 .long
+same-length-2 : tie.Need-same-length-2 Inv-loop μ-loop
+same-length-2 c = c .before .loop .inv .1 .long
 
-returns-2 : tie.Need-returns-2 Inv-loop μ-loop
-returns-2 c = spelt-all _ _ _ _ _ (c .before .loop .inv .1) (c .loop-test .left)
+returns-3 : tie.Need-returns-3 Inv-loop μ-loop
+returns-3 c = spelt-all _ _ _ _ _ (c .before .loop .inv .1) (c .loop-test .left)
 
 pub put-number-spec : {M : Type 1} → statement M
 put-number-spec =
@@ -58,6 +68,9 @@ put-number-spec =
     Inv-loop
     μ-loop
     returns
+    put-ten-requires
+    same-length
+    returns-2
     sub-i
     cast-field
     add-field
@@ -68,5 +81,5 @@ put-number-spec =
     slice-write-field-2
     loop-less
     loop-again
-    same-length
-    returns-2)
+    same-length-2
+    returns-3)

@@ -1,0 +1,54 @@
+-- `lines::field::put_ten` meets its contract. Assumes nothing.
+use mathlib.Core.Path.{ap, sym, _∙_}
+use native.Mathlib.Omega.{arith}
+use lib.ListN.{length}
+use Rattle.lines.proofs.WriteLaws.{length-written}
+use Rattle.lines.proofs.TenDigitLaws.{ten-written}
+use borrow.Author.Needs.{needs}
+use Rattle.lines.proofs.field.put_ten.Statement.{statement}
+use Rattle.lines.proofs.field.put_ten.Tie as tie
+
+put-pair-requires : tie.Need-put-pair-requires
+put-pair-requires c κs = search needs
+
+put-pair-requires-2 : tie.Need-put-pair-requires-2
+put-pair-requires-2 c κs = search needs
+
+put-pair-requires-3 : tie.Need-put-pair-requires-3
+put-pair-requires-3 c κs = search needs
+
+put-pair-requires-4 : tie.Need-put-pair-requires-4
+put-pair-requires-4 c κs = search needs
+
+put-pair-requires-5 : tie.Need-put-pair-requires-5
+put-pair-requires-5 c κs = search needs
+
+slice-write-field : tie.Need-slice-write-field
+slice-write-field c = search needs
+
+returns : tie.Need-returns
+returns c =
+    rw (
+      c .before .before .put-pair5 .ensures,
+      c .before .before .before .before .before .before .put-pair4 .ensures,
+      c .before .before .before .before .before .before .before .before .before .before .put-pair3 .ensures,
+      c .before .before .before .before .before .before .before .before .before .before .before .before .before .before .put-pair2 .ensures,
+      c .before .before .before .before .before .before .before .before .before .before .before .before .before .before .before .before .before .before .put-pair .ensures,
+    )
+    (ten-written (c .before .before .before .before .before .before .before .before .before .before .before .before .before .before .before .before .before .before .before .before .before .args .field .now) (c .before .before .before .before .before .before .before .before .before .before .before .before .before .before .before .before .before .before .before .before .before .args .n) (c .before .before .before .before .before .before .before .before .before .before .before .before .before .before .before .before .before .before .before .before .before .pre .0) (c .before .before .before .before .before .before .before .before .before .before .before .before .before .before .before .before .before .before .before .before .before .pre .1) (omega arith))
+
+same-length : tie.Need-same-length
+same-length c = ap length (returns c) ∙ (length-written 11 _ ∙ sym (c .before .before .before .before .before .before .before .before .before .before .before .before .before .before .before .before .before .before .before .before .before .pre .0))
+
+pub put-ten-spec : {M : Type 1} → statement M
+put-ten-spec =
+    tie.close
+    (tie.spec
+    put-pair-requires
+    put-pair-requires-2
+    put-pair-requires-3
+    put-pair-requires-4
+    put-pair-requires-5
+    slice-write-field
+    same-length
+    returns)
