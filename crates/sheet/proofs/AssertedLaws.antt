@@ -7,6 +7,7 @@ use lib.Dec.{T, eqb}
 use lib.Ieee.Scale.{finite}
 use borrow.Author.Tests.{eqb-true, eqb-false, eq-eqb}
 use denote.Floats.{passes}
+use Rattle.laws.proofs.BoolLaws.{cond-by}
 use Rattle.vector.specs.declared.vec3.Vec3.{Vec3}
 use Rattle.vector.specs.Projections.{otherLenSqRcp}
 use Rattle.vector.specs.ExactVectors.{Direction}
@@ -18,7 +19,7 @@ use Rattle.sheet.specs.Fields.{Sources, among, usesA, usesB}
 use Rattle.sheet.specs.Results.{isDirection}
 use Rattle.sheet.specs.Asserts.{assertsOf}
 use Rattle.sheet.specs.Refusals.{takesDirections}
-use Rattle.sheet.proofs.ConditionLaws.{Done, denied, cond-by}
+use Rattle.sheet.proofs.ConditionLaws.{Done, denied}
 use Rattle.sheet.proofs.SourceLaws.{ValidSources}
 use Rattle.sheet.proofs.RefusalLaws.{Directed, directed, clamps-ordered}
 use Rattle.sheet.proofs.ReadLaws.{direction-a, direction-b, filled-b}
@@ -48,7 +49,7 @@ module _ (c : Command) (s : Sources) (valid : ValidSources s) (d : Done c s) whe
 
   -- 11 and 12: b is a direction, or a point of which refusal 7 has tested 1/(b·b)
   unit-b : isDirection (s .b .kind) ≡ true → Direction b
-  unit-b e = valid .row-b .sound .unit (eqb-true (s .b .kind) 2 e)
+  unit-b e = valid .row-b .unit (eqb-true (s .b .kind) 2 e)
 
   reciprocal :
       (k : ℕ) → n ≡ k → usesB k ≡ true → takesDirections k ≡ false → (eqb k 11 || eqb k 12) ≡ true → isDirection (s .b .kind) ≡ false
@@ -86,8 +87,8 @@ module _ (c : Command) (s : Sources) (valid : ValidSources s) (d : Done c s) whe
   -- 28
   angled : eqb n 28 ≡ true → T (assertsAngleBetween a b)
   angled e =
-      let finite-a = valid .row-a .sound .numbers-finite in
-      let finite-b = valid .row-b .sound .numbers-finite in
+      let finite-a = valid .row-a .numbers-finite in
+      let finite-b = valid .row-b .numbers-finite in
       let zeros = seven .angle e in
       law-s .angle-between a b finite-a finite-b (denied (zeroLength a) (zeros .0)) (denied (zeroLength b) (zeros .1))
 

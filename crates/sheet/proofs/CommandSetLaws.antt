@@ -1,44 +1,26 @@
 -- The sets of commands that use b, u, v and w, as bits and as document 01's lists: one test over the numbers below 33, and none from there on. Assumes nothing.
 use mathlib.Core.Path.{_≡_, refl, sym}
-use mathlib.Core.Bool.{Bool, true, false, _&&_}
+use mathlib.Core.Bool.{Bool, true, false, _&&_, Bool·beq}
 use mathlib.Core.List.{List, [], _∷_}
 use Prim.Native.Nat.{ℕ, zero, suc, _≤_, _<_}
 use native.Mathlib.Nat.{not-suc-le-zero, le-of-suc-le-suc}
 use native.Mathlib.Omega.{arith}
 use lib.Dec.{T, ltb, ltb→lt, nltb→le}
+use lib.Ieee.Fits.{and-l, and-r}
 use borrow.Author.Tests.{ne-eqb}
+use Rattle.laws.proofs.BoolLaws.{beq-same}
 use Rattle.sheet.specs.Fields.{among}
 use Rattle.sheet.specs.CommandSets.{inSet}
-
-and-left : (a b : Bool) → T (a && b) → T a
-and-left true b t = tt
-and-left false b t = t
-
-and-right : (a b : Bool) → T (a && b) → T b
-and-right true b t = t
-and-right false b t = absurd t
 
 -- ---- a test that passes at each number below k
 abbrev pub allBelow : (ℕ → Bool) → ℕ → Bool
 allBelow p zero = true
 allBelow p (suc k) = p zero && allBelow (λ (n : ℕ). p (suc n)) k
 
-below : (p : ℕ → Bool) (k n : ℕ) → T (allBelow p k) → n < k → T (p n)
+pub below : (p : ℕ → Bool) (k n : ℕ) → T (allBelow p k) → n < k → T (p n)
 below p zero n t h = absurd (not-suc-le-zero h)
-below p (suc k) zero t h = and-left (p zero) (allBelow (λ (n : ℕ). p (suc n)) k) t
-below p (suc k) (suc n) t h = below (λ (m : ℕ). p (suc m)) k n (and-right (p zero) (allBelow (λ (n : ℕ). p (suc n)) k) t) (le-of-suc-le-suc h)
-
--- two truth values are the same
-abbrev pub same : Bool → Bool → Bool
-same true b = b
-same false true = false
-same false false = true
-
-is-same : (a b : Bool) → T (same a b) → a ≡ b
-is-same true true t = refl
-is-same true false t = absurd t
-is-same false true t = absurd t
-is-same false false t = refl
+below p (suc k) zero t h = and-l (p zero) (allBelow (λ (n : ℕ). p (suc n)) k) t
+below p (suc k) (suc n) t h = below (λ (m : ℕ). p (suc m)) k n (and-r (p zero) (allBelow (λ (n : ℕ). p (suc n)) k) t) (le-of-suc-le-suc h)
 
 -- ---- a list of numbers below 33 has none from 33 on
 abbrev pub low : List ℕ → Bool
@@ -49,14 +31,14 @@ none-above : (l : List ℕ) (n : ℕ) → T (low l) → 33 ≤ n → among n l �
 unfolding among
 none-above [] n t h = refl
 none-above (k ∷ rest) n t h =
-    let b : k < 33 = ltb→lt k 33 (and-left (ltb k 33) (low rest) t) in
-    simp (ne-eqb n k (λ e. absurd (omega (arith, e))), none-above rest n (and-right (ltb k 33) (low rest) t) h)
+    let b : k < 33 = ltb→lt k 33 (and-l (ltb k 33) (low rest) t) in
+    simp (ne-eqb n k (λ e. absurd (omega (arith, e))), none-above rest n (and-r (ltb k 33) (low rest) t) h)
 
 -- ---- so a word's bits are a list's numbers, if they are so below 33
-pub set-is : (set : ℕ) (l : List ℕ) (n : ℕ) → T (low l) → T (allBelow (λ (k : ℕ). same (inSet set k) (among k l)) 33) → inSet set n ≡ among n l
+pub set-is : (set : ℕ) (l : List ℕ) (n : ℕ) → T (low l) → T (allBelow (λ (k : ℕ). Bool·beq (inSet set k) (among k l)) 33) → inSet set n ≡ among n l
 unfolding inSet
 set-is set l n t u = go (ltb n 33) refl
   where
     go : (b : Bool) → ltb n 33 ≡ b → inSet set n ≡ among n l
-    go true e = is-same (inSet set n) (among n l) (below (λ (k : ℕ). same (inSet set k) (among k l)) 33 n u (ltb→lt n 33 (rw e tt)))
+    go true e = beq-same (inSet set n) (among n l) (below (λ (k : ℕ). Bool·beq (inSet set k) (among k l)) 33 n u (ltb→lt n 33 (rw e tt)))
     go false e = rw e (sym (none-above l n t (nltb→le n 33 (rw e tt))))

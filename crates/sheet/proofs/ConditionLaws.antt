@@ -1,7 +1,7 @@
--- Conditions joined by && and ||, the choice that a condition makes, and the list of refusals of which none holds. Assumes nothing.
+-- Conditions joined by && and ||, and the list of refusals of which none holds. Assumes nothing.
 use Prim.Native.Nat.{ℕ, suc}
 use mathlib.Core.Path.{_≡_, refl}
-use mathlib.Core.Bool.{Bool, true, false, cond, not, _&&_, _||_, true≢false, false≢true}
+use mathlib.Core.Bool.{Bool, true, false, not, _&&_, _||_, true≢false, false≢true}
 use mathlib.Core.List.{List, _∷_}
 use native.Mathlib.Omega.{arith}
 use lib.Dec.{T}
@@ -36,15 +36,6 @@ none-of-four p q r s e =
 pub met : (p q : Bool) → p ≡ true → (p && q) ≡ false → q ≡ false
 met true q t e = e
 met false q t e = absurd (false≢true t)
-
--- either branch has it, so the choice has it; and where the test's value is needed too
-pub cond-any : {A : Type 0} (P : A → Type 0) (b : Bool) (x y : A) → P x → P y → P (cond b x y)
-cond-any P true x y p q = p
-cond-any P false x y p q = q
-
-pub cond-by : {A : Type 0} (P : A → Type 0) (b : Bool) (x y : A) → (b ≡ true → P x) → (b ≡ false → P y) → P (cond b x y)
-cond-by P true x y p q = p refl
-cond-by P false x y p q = q refl
 
 -- the first of a list of refusals that gives 0 does not hold, and the rest give 0
 pub none-first : (k : ℕ) (b : Bool) (rest : List Refusal) → first (if (suc k) b ∷ rest) ≡ 0 → (b ≡ false) × (first rest ≡ 0)

@@ -1,6 +1,6 @@
 -- A step by the effect of its command: refused early, refused late or done, and on 64 rows. Assumes nothing.
 use Prim.Native.Nat.{ℕ, _+_, _<_}
-use mathlib.Core.Path.{_≡_, refl, sym, ap, ap₂, _∙_, subst}
+use mathlib.Core.Path.{_≡_, refl, sym, ap, _∙_, subst}
 use mathlib.Core.Bool.{Bool, true, false, cond}
 use native.Mathlib.Omega.{arith}
 use lib.Dec.{eqb, ltb}
@@ -10,7 +10,7 @@ use borrow.Author.Tests.{ltb-true, ltb-false}
 use Rattle.sheet.specs.declared.command.Command.{Command}
 use Rattle.sheet.specs.declared.rows.Row.{Row}
 use Rattle.sheet.specs.declared.rows.Sheet.{Sheet}
-use Rattle.sheet.specs.declared.work.Action.{Action}
+use Rattle.sheet.specs.declared.effects.Action.{Action}
 use Rattle.sheet.specs.Rows.{ModelRow, Model, rowOf, modelOf, rowAt, written}
 use Rattle.sheet.specs.Fields.{sources}
 use Rattle.sheet.specs.Refusals.{first, refusals, refusalOf, unknown, noRow, badSource, badValue}
@@ -18,7 +18,8 @@ use Rattle.sheet.specs.Answers.{refused, shown}
 use Rattle.sheet.specs.Model.{Effect, Puts, PutsTwo, Tells, Stepped, effectOf, applied, stepOf}
 use Rattle.sheet.specs.Work.{earlyOf, lateOf, workOf, effectBy}
 use Rattle.sheet.specs.Step.{effectAt, putWithin, within}
-use Rattle.sheet.proofs.ConditionLaws.{cond-by}
+use Rattle.laws.proofs.BoolLaws.{cond-by}
+use Rattle.sheet.proofs.UnreadLaws.{effect-rows}
 
 -- the rows as they were, and the answer of a refusal
 abbrev left : Model → ℕ → Stepped
@@ -92,17 +93,17 @@ within-range t (Tells x) = tt
 pub action-range : (t : ℕ) (e : Effect) (d : Action) → effectBy d ≡ within t e → InRange t (effectBy d)
 action-range t e d h = subst (InRange t) (sym h) (within-range t e)
 
--- ---- a step by the program's action
+-- ---- a step by the program's action: what was read for a row above 63 does not matter
 pub step-action :
     (s : Sheet) (c : Command) (a b : Row) (d : Action)
     → length (s .rows) ≡ 64
-    → rowOf a ≡ rowAt (modelOf s) (c .a)
-    → rowOf b ≡ rowAt (modelOf s) (c .b)
+    → (c .a < 64 → rowOf a ≡ rowAt (modelOf s) (c .a))
+    → (c .b < 64 → rowOf b ≡ rowAt (modelOf s) (c .b))
     → effectBy d ≡ within (c .t) (effectAt c (rowOf a) (rowOf b))
     → applied (modelOf s) (c .t) (effectBy d) ≡ stepOf (modelOf s) c
 unfolding modelOf
 step-action s c a b d l ea eb h =
     ap (applied (modelOf s) (c .t)) h
     ∙ applied-within (modelOf s) (length-map (s .rows) rowOf ∙ l) (c .t) (effectAt c (rowOf a) (rowOf b))
-    ∙ ap₂ (λ (x y : ModelRow). applied (modelOf s) (c .t) (effectAt c x y)) ea eb
+    ∙ ap (applied (modelOf s) (c .t)) (effect-rows c (rowOf a) (rowOf b) (rowAt (modelOf s) (c .a)) (rowAt (modelOf s) (c .b)) ea eb)
     ∙ sym (step-effect (modelOf s) c)

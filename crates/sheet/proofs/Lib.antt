@@ -1,10 +1,10 @@
+-- The laws and proofs of crate sheet, file by file.
 mod RunLaws
+mod UnreadLaws
 pub mod EffectSteps
 pub mod SheetRows
 mod CommandSetLaws
 pub mod ConditionLaws
-pub mod FitsLaws
-pub mod VectorFits
 pub mod SourceLaws
 pub mod DirectionOfLaws
 pub mod RefusalLaws

@@ -9,15 +9,16 @@ use Rattle.sheet.specs.declared.command.Command.{Command}
 use Rattle.sheet.specs.Rows.{ModelRow}
 use Rattle.sheet.specs.Fields.{Sources, usesA, usesB}
 use Rattle.sheet.specs.Refusals.{takesDirections, unfit, badSource}
+use Rattle.sheet.specs.Claim.{SoundRow}
 use Rattle.sheet.proofs.ConditionLaws.{Done}
-use Rattle.sheet.proofs.SourceLaws.{ValidRow, ValidSources}
+use Rattle.sheet.proofs.SourceLaws.{ValidSources}
 use Rattle.sheet.proofs.RefusalLaws.{fit-a, fit-b}
 
 -- of a row that is fit for command k
-fit-direction : (k : ℕ) (r : ModelRow) → ValidRow r → takesDirections k ≡ true → unfit k (r .kind) ≡ false → Direction (r .numbers)
+fit-direction : (k : ℕ) (r : ModelRow) → SoundRow r → takesDirections k ≡ true → unfit k (r .kind) ≡ false → Direction (r .numbers)
 fit-direction k r valid needs fit =
     let two = subst (λ (b : Bool). cond b (not (eqb (r .kind) 2)) (eqb (r .kind) 0) ≡ false) needs fit in
-    valid .sound .unit (eqb-true (r .kind) 2 (not-false (eqb (r .kind) 2) two))
+    valid .unit (eqb-true (r .kind) 2 (not-false (eqb (r .kind) 2) two))
 
 fit-filled : (k kind : ℕ) → takesDirections k ≡ false → unfit k kind ≡ false → kind ≡ 0 → ⊥
 fit-filled k kind needs fit = eqb-false kind 0 (subst (λ (b : Bool). cond b (not (eqb kind 2)) (eqb kind 0) ≡ false) needs fit)

@@ -1,4 +1,4 @@
--- Rows that are written and read again, and sheets whose rows are all valid. Assumes nothing.
+-- Rows that are written and read again, and sheets whose rows are all as specs/Claim promises. Assumes nothing.
 use Prim.Native.Nat.{ℕ, zero, suc, _<_}
 use native.Mathlib.Omega.{arith}
 use mathlib.Core.Path.{_≡_, refl, subst, sym, _∙_}
@@ -10,24 +10,23 @@ use lib.Ieee.{ofBits}
 use Rattle.vector.specs.declared.vec3.Vec3.{Vec3}
 use Rattle.vector.specs.Vectors.{ZERO}
 use Rattle.vector.specs.ExactVectors.{F32Vec, FiniteVec, Direction}
+use Rattle.vector.proofs.VectorFits.{zero-vector}
 use Rattle.sheet.specs.Rows.{ModelRow, Model, empty, point, direction, fresh, rowAt, written}
-use Rattle.sheet.specs.Claim.{Sound}
-use Rattle.sheet.proofs.VectorFits.{zero-vector}
-use Rattle.sheet.proofs.SourceLaws.{ValidRow}
+use Rattle.sheet.specs.Claim.{SoundRow, Sound}
 
 -- ---- the rows that commands write
 zero-finite : FiniteVec ZERO
 unfolding ofBits
 zero-finite = record { finite-x = tt; finite-y = tt; finite-z = tt }
 
-pub empty-row : ValidRow empty
-empty-row = record { sound = record { values = zero-vector; numbers-finite = zero-finite; unit = λ e. absurd (omega (arith, e)) }; known-kind = lit≤ tt }
+pub empty-row : SoundRow empty
+empty-row = record { known-kind = lit≤ tt; zeros = λ _. refl; values = zero-vector; numbers-finite = zero-finite; unit = λ e. absurd (omega (arith, e)) }
 
-pub point-row : (v : Vec3) → F32Vec v → FiniteVec v → ValidRow (point v)
-point-row v f n = record { sound = record { values = f; numbers-finite = n; unit = λ e. absurd (omega (arith, e)) }; known-kind = lit≤ tt }
+pub point-row : (v : Vec3) → F32Vec v → FiniteVec v → SoundRow (point v)
+point-row v f n = record { known-kind = lit≤ tt; zeros = λ e. absurd (omega (arith, e)); values = f; numbers-finite = n; unit = λ e. absurd (omega (arith, e)) }
 
-pub direction-row : (v : Vec3) → Direction v → ValidRow (direction v)
-direction-row v d = record { sound = record { values = d .values; numbers-finite = d .numbers; unit = λ _. d }; known-kind = lit≤ tt }
+pub direction-row : (v : Vec3) → Direction v → SoundRow (direction v)
+direction-row v d = record { known-kind = lit≤ tt; zeros = λ e. absurd (omega (arith, e)); values = d .values; numbers-finite = d .numbers; unit = λ _. d }
 
 -- ---- written and read
 pub length-written : (m : Model) (i : ℕ) (r : ModelRow) → length (written m i r) ≡ length m
@@ -56,17 +55,10 @@ all-replicate (suc n) zero a = refl
 all-replicate (suc n) (suc i) a = all-replicate n i a
 
 -- ---- sheets
-pub record Valid (m : Model) : Type 0 where
-  pub count : length m ≡ 64
-  pub each-row : (i : ℕ) → ValidRow (rowAt m i)
-
-pub fresh-valid : Valid fresh
+pub fresh-sound : Sound fresh
 unfolding fresh rowAt
-fresh-valid = record { count = length-replicate 64 empty; each-row = λ i. subst ValidRow (sym (all-replicate 64 i empty)) empty-row }
+fresh-sound = record { count = length-replicate 64 empty; each-row = λ i. subst SoundRow (sym (all-replicate 64 i empty)) empty-row }
 
-pub written-valid : (m : Model) (i : ℕ) (r : ModelRow) → Valid m → ValidRow r → Valid (written m i r)
+pub written-sound : (m : Model) (i : ℕ) (r : ModelRow) → Sound m → SoundRow r → Sound (written m i r)
 unfolding rowAt written
-written-valid m i r h p = record { count = length-set m i r ∙ h .count; each-row = all-set ValidRow m i r empty (h .each-row) p }
-
-pub valid-sound : (m : Model) → Valid m → Sound m
-valid-sound m h = record { count = h .count; each-row = λ i. h .each-row i .sound }
+written-sound m i r h p = record { count = length-set m i r ∙ h .count; each-row = all-set SoundRow m i r empty (h .each-row) p }

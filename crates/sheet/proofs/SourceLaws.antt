@@ -1,41 +1,35 @@
--- Rows with kinds 0 to 2 and what specs/Claim promises of a row; sources taken from such rows; and the vectors that commands work out from them have f32
--- numbers. Assumes nothing.
-use Prim.Native.Nat.{ℕ, _≤_}
+-- Sources taken from rows that are as specs/Claim promises, and that the vectors which commands work out from them have f32 numbers. Assumes nothing.
+use Prim.Native.Nat.{ℕ}
 use lib.Dec.{eqb}
 use lib.Ieee.{binary32}
 use lib.Ieee.Bits.{ofBits-fits}
+use Rattle.laws.proofs.BoolLaws.{cond-any}
+use Rattle.scalar.proofs.FitsLaws.{Fits32}
 use Rattle.vector.specs.ExactVectors.{F32Vec}
+use Rattle.vector.proofs.VectorFits as Fit
 use Rattle.sheet.specs.declared.command.Command.{Command}
 use Rattle.sheet.specs.Rows.{ModelRow}
 use Rattle.sheet.specs.Fields.{Sources, sourcesOf}
 use Rattle.sheet.specs.Results.{isDirection, pointOf, aimOf}
 use Rattle.sheet.specs.Claim.{SoundRow}
-use Rattle.sheet.proofs.ConditionLaws.{cond-any}
-use Rattle.sheet.proofs.FitsLaws.{Fits32}
-use Rattle.sheet.proofs.VectorFits as Fit
-
--- "each empty (kind 0, its numbers +0), a point (1) or a direction (2)"
-pub record ValidRow (r : ModelRow) : Type 0 where
-  pub sound : SoundRow r
-  pub known-kind : r .kind ≤ 2
 
 pub record ValidSources (s : Sources) : Type 0 where
-  pub row-a : ValidRow (s .a)
-  pub row-b : ValidRow (s .b)
+  pub row-a : SoundRow (s .a)
+  pub row-b : SoundRow (s .b)
   pub fits-u : Fits32 (s .u)
   pub fits-v : Fits32 (s .v)
   pub fits-w : Fits32 (s .w)
 
-pub valid-sources : (c : Command) (a b : ModelRow) → ValidRow a → ValidRow b → ValidSources (sourcesOf c a b)
+pub valid-sources : (c : Command) (a b : ModelRow) → SoundRow a → SoundRow b → ValidSources (sourcesOf c a b)
 valid-sources c a b p q =
     record { row-a = p; row-b = q; fits-u = ofBits-fits binary32 (c .u); fits-v = ofBits-fits binary32 (c .v); fits-w = ofBits-fits binary32 (c .w) }
 
 module _ (n : ℕ) (s : Sources) (valid : ValidSources s) where
   values-a : F32Vec (s .a .numbers)
-  values-a = valid .row-a .sound .values
+  values-a = valid .row-a .values
 
   values-b : F32Vec (s .b .numbers)
-  values-b = valid .row-b .sound .values
+  values-b = valid .row-b .values
 
   -- 1 and 3 to 21
   pub point-values : F32Vec (pointOf n s)

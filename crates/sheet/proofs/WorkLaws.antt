@@ -6,7 +6,8 @@ use mathlib.Core.List.{[], _∷_}
 use native.Mathlib.Omega.{arith}
 use borrow.Author.Tests.{ne-eqb, le-leb, lt-leb}
 use lib.Dec.{eqb}
-use lib.Ieee.{lt}
+use lib.Ieee.{Float, lt}
+use lib.Ieee.Scale.{finite}
 use Rattle.vector.specs.declared.vec3.Vec3.{Vec3}
 use Rattle.vector.specs.declared.vec3.normalizing.Normalized.{Normalized}
 use Rattle.vector.specs.Vectors.{zer}
@@ -16,26 +17,27 @@ use Rattle.vector.specs.Orthogonal.{anyOrthonormalPair}
 use Rattle.sheet.specs.declared.command.Command.{Command}
 use Rattle.sheet.specs.Rows.{point, direction}
 use Rattle.sheet.specs.Fields.{Sources}
-use Rattle.sheet.specs.Results.{givesPoint, givesDirection, givesNumber, givesWhole, isDirection, directionOf, aimOf, firstAim, secondAim}
+use Rattle.sheet.specs.Results.{givesPoint, givesDirection, givesNumber, givesWhole, isDirection, directionOf, pointOf, aimOf, firstAim, secondAim, numberOf, wholeOf}
 use Rattle.sheet.specs.Refusals.{if, first, isNothing, noRefraction, noDirection, notFinite}
-use Rattle.sheet.specs.Answers.{refused, shown}
+use Rattle.sheet.specs.Answers.{refused, shown, number}
 use Rattle.sheet.specs.Model.{Effect, Puts, PutsTwo, Tells, effectOf, taken}
 use Rattle.sheet.specs.Work.{workOf, lateOf}
-use Rattle.sheet.specs.Outcomes.{unless, pointDone, directionDone, pairDone, refractDone, noFactor, projectionDone}
+use Rattle.sheet.specs.Outcomes.{unless, pointDone, numberDone, directionDone, pairDone, refractDone, noFactor, projectionDone}
 use Rattle.sheet.proofs.OutcomeLaws.{unless-or, unless-first}
 
--- the command with number n, and its effect unless 8, then 7, then 6 refuses it
+-- the command with number n, and its effect unless 8, then 7, then 6 refuses it: where it unfolds, so does all that a number decides
 abbrev pub numbered : ℕ → Command → Command
 numbered n c = record { number = n; t = c .t; a = c .a; b = c .b; u = c .u; v = c .v; w = c .w }
 
-abbrev pub inOrder : ℕ → Command → Sources → Effect
+unfoldable pub inOrder : ℕ → Command → Sources → Effect
+unfolding unless noRefraction noDirection notFinite effectOf givesPoint givesDirection givesNumber givesWhole pointOf aimOf numberOf wholeOf
 inOrder n c s = unless 8 (noRefraction n s) (unless 7 (noDirection n s) (unless 6 (notFinite n s) (effectOf (numbered n c) s)))
 
 abbrev firstOf : Bool → Bool → Bool → ℕ
 firstOf x y z = first (if 8 x ∷ if 7 y ∷ if 6 z ∷ [])
 
 pub in-order : (c : Command) (s : Sources) (n : ℕ) → c .number ≡ n → workOf c s ≡ inOrder n c s
-unfolding workOf lateOf first unless
+unfolding inOrder workOf lateOf first
 in-order c s n h =
     ap (λ (k : ℕ). workOf (numbered k c) s) h ∙ go (effectOf (numbered n c) s) (noRefraction n s) (noDirection n s) (notFinite n s)
   where
@@ -80,9 +82,18 @@ unfolding directionDone
 direction-work c s n v w h k e =
     ap directionDone e ∙ done-work c s n (directionDone w) h (k ∙ unless-first 7 (isNothing (directionOf w)) _)
 
+-- 25 to 27: 6
+pub number-work :
+    (c : Command) (s : Sources) (n : ℕ) (x y : Float) → c .number ≡ n
+    → inOrder n c s ≡ unless 6 (not (finite y)) (Tells (number y))
+    → x ≡ y
+    → numberDone x ≡ workOf c s
+unfolding numberDone
+number-work c s n x y h k e = ap numberDone e ∙ done-work c s n (numberDone y) h k
+
 -- 23: first 8, then 7
 pub refract-work : (c : Command) (s : Sources) → c .number ≡ 23 → refractDone (s .a .numbers) (s .b .numbers) (s .u) ≡ workOf c s
-unfolding refractDone directionDone noRefraction noDirection notFinite effectOf givesPoint givesDirection givesNumber aimOf unless
+unfolding inOrder refractDone directionDone
 refract-work c s h = done-work c s 23 (refractDone (s .a .numbers) (s .b .numbers) (s .u)) h (ap (unless 8 k) (unless-first 7 (isNothing d) (Puts (direction (taken d)))))
   where
     k : Bool
@@ -93,7 +104,7 @@ refract-work c s h = done-work c s 23 (refractDone (s .a .numbers) (s .b .number
 
 -- 24: 7
 pub pair-work : (c : Command) (s : Sources) → c .number ≡ 24 → pairDone (anyOrthonormalPair (s .a .numbers)) ≡ workOf c s
-unfolding pairDone noRefraction noDirection notFinite effectOf givesPoint givesDirection givesNumber unless
+unfolding inOrder pairDone
 pair-work c s h = done-work c s 24 (pairDone (anyOrthonormalPair (s .a .numbers))) h (unless-or 7 (b || false) e ∙ unless-or 7 b e)
   where
     b : Bool
@@ -113,7 +124,7 @@ none-below (suc k) n h = let l : k ≤ n = none-below k n (h .0) in let d : n �
 
 -- 32: shows row a
 pub show-work : (c : Command) (s : Sources) → NoneBelow 32 (c .number) → Tells (shown (c .a) (s .a)) ≡ workOf c s
-unfolding noRefraction noDirection notFinite effectOf givesPoint givesDirection givesNumber givesWhole unless
+unfolding inOrder
 show-work c s h = done-work c s (c .number) _ refl (shows (c .number) (none-below 32 (c .number) h))
   where
     far : (n k : ℕ) → 32 ≤ n → k < 32 → eqb n k ≡ false

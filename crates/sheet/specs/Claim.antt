@@ -1,9 +1,10 @@
 -- Demand 3 over a whole list of commands, as one claim.
-use Prim.Native.Nat.{ℕ, suc, _+_}
+use Prim.Native.Nat.{ℕ, suc, _+_, _≤_}
 use mathlib.Core.Path.{_≡_}
 use mathlib.Core.List.{List, [], _∷_}
 use lib.Dec.{T}
 use lib.ListN.{length}
+use Rattle.vector.specs.Vectors.{ZERO}
 use Rattle.vector.specs.ExactVectors.{F32Vec, FiniteVec, Direction, NearlyOrthogonal}
 use Rattle.sheet.specs.declared.command.Command.{Command}
 use Rattle.sheet.specs.Rows.{ModelRow, Model, rowAt, fresh}
@@ -13,8 +14,11 @@ use Rattle.sheet.specs.Asserts.{assertsOf}
 use Rattle.sheet.specs.Answers.{ModelAnswer, refused}
 use Rattle.sheet.specs.Model.{stepOf, runOf}
 
--- "every number in a row is finite and the exact squared length of every direction lies within 2^-18 of 1"
+-- "each empty (kind 0, its numbers +0), a point (1) or a direction (2)"; "every number in a row is finite and the exact squared length of every direction lies
+-- within 2^-18 of 1"
 pub record SoundRow (r : ModelRow) : Type 0 where
+  pub known-kind : r .kind ≤ 2
+  pub zeros : r .kind ≡ 0 → r .numbers ≡ ZERO
   pub values : F32Vec (r .numbers)
   pub numbers-finite : FiniteVec (r .numbers)
   pub unit : r .kind ≡ 2 → Direction (r .numbers)

@@ -1,3 +1,4 @@
+-- The definitions of crate sheet, file by file.
 pub mod Rows
 pub mod Fields
 pub mod Results

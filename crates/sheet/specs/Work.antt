@@ -5,8 +5,8 @@ use mathlib.Core.List.{[], _∷_}
 use lib.Dec.{eqb}
 use lib.Ieee.{binary32, ofBits}
 use Rattle.sheet.specs.declared.command.Command.{Command}
-use Rattle.sheet.specs.declared.work.Action.{Action}
-use Rattle.sheet.specs.declared.work.Action.the-variants.{Tell, Put, PutTwo}
+use Rattle.sheet.specs.declared.effects.Action.{Action}
+use Rattle.sheet.specs.declared.effects.Action.the-variants.{Tell, Put, PutTwo}
 use Rattle.sheet.specs.Rows.{direction}
 use Rattle.sheet.specs.Fields.{Sources}
 use Rattle.sheet.specs.Refusals.{if, first, unknown, noRow, badSource, badValue, noRefraction, noDirection, notFinite}

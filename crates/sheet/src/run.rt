@@ -2,12 +2,12 @@
 ghost use mathlib.Core.Path.{_≡_};
 ghost use mathlib.Core.List.{[], _∷_};
 ghost use Prim.Native.Nat.{_+_, _≤_};
-ghost use lib.ListN.{length, drop};
+ghost use lib.ListN.{length};
 ghost use lib.Seq.{sets};
 ghost use Rattle.sheet.specs.Answers.{answerOf};
-ghost use Rattle.sheet.specs.Run.{commandOf, numbersOf, refusalOfLengths, RunAll};
+ghost use Rattle.sheet.specs.Run.{numbersOf, refusalOfLengths, RunAll};
 use crate::command::Answer;
-use crate::command::Command;
+use crate::command::command_at;
 use crate::rows::Sheet;
 use scalar::bits::to_bits;
 
@@ -15,21 +15,6 @@ use scalar::bits::to_bits;
 pub struct Ran {
     pub sheet: Sheet,
     pub refusal: u32,
-}
-
-fn command_at(s: &[u32], at: usize) -> Command
-    requires { ⌜ at + 7 ≤ length (now s) ⌝ }
-    ensures { λ r. ⌜ r ≡ commandOf (drop at (now (s .entry))) ⌝ }
-{
-    Command {
-        number: s[at],
-        t: s[at + 1],
-        a: s[at + 2],
-        b: s[at + 3],
-        u: s[at + 4],
-        v: s[at + 5],
-        w: s[at + 6],
-    }
 }
 
 fn put_six(out: &mut [u32], at: usize, refusal: u32, row: u32, kind: u32, x: u32, y: u32, z: u32)

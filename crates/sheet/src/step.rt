@@ -6,11 +6,11 @@ ghost use Rattle.sheet.specs.Work.{effectBy};
 ghost use Rattle.sheet.specs.Step.{within, effectAt, steppedOf};
 use crate::command::Answer;
 use crate::command::Command;
+use crate::effects::Action;
+use crate::effects::work;
 use crate::refusal::refusal;
 use crate::rows::Row;
 use crate::rows::Sheet;
-use crate::work::Action;
-use crate::work::work;
 use vector::vec3::Vec3;
 
 // The sheet after a command, and its answer.

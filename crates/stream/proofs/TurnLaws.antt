@@ -12,17 +12,17 @@ use Rattle.sheet.specs.declared.rows.Row.{Row}
 use Rattle.sheet.specs.declared.rows.Sheet.{Sheet}
 use Rattle.sheet.specs.declared.command.Command.{Command}
 use Rattle.sheet.specs.declared.command.Answer.{Answer}
-use Rattle.sheet.specs.declared.work.Action.{Action}
-use Rattle.sheet.specs.declared.work.Action.the-variants.{Tell, Put, PutTwo}
+use Rattle.sheet.specs.declared.effects.Action.{Action}
+use Rattle.sheet.specs.declared.effects.Action.the-variants.{Tell, Put, PutTwo}
 use Rattle.sheet.specs.Rows.{empty, direction, rowOf, modelOf, rowAt}
 use Rattle.sheet.specs.Answers.{ModelAnswer, refused, shown, answerOf}
 use Rattle.sheet.specs.Model.{applied, stepOf}
 use Rattle.sheet.specs.Work.{effectBy}
 use Rattle.sheet.specs.Step.{effectAt, within}
-use Rattle.sheet.proofs.SheetRows.{row-read, row-none, row-written}
+use Rattle.sheet.proofs.SheetRows.{row-read, row-written}
 use Rattle.sheet.proofs.EffectSteps.{InRange, action-range, step-action}
 use Rattle.stream.specs.Stream.{Held, held}
-use Rattle.stream.specs.Turns.{toldAt, seenOf, IsRun, IsIll, IsByte}
+use Rattle.stream.specs.Turns.{toldAt, IsRun, IsIll, IsByte}
 use Rattle.stream.proofs.FeedLaws.{Feeding, feeding-none, feeding-run, feeding-ill, feeding-byte, push-more, push-full}
 
 -- what holds at the loop's test, of the sheet and the held line that the loop owns
@@ -36,24 +36,16 @@ pub turning-none : (bytes before : List ℕ) (s : Sheet) (line : List ℕ) (len 
     → len ≤ 46 → length line ≡ 46 → length (s .rows) ≡ 64 → Turning (held (modelOf s) (take len line)) bytes before before s line len 0 0
 turning-none bytes before s line len p q r = record { fed = feeding-none (held (modelOf s) (take len line)) bytes before; short = p; long = q; rows = r }
 
--- ---- a row that is read at i modulo 64
-seen-row : (s : Sheet) (i : ℕ) (d : Row) → length (s .rows) ≡ 64 → seenOf i (rowOf (getD (s .rows) (i % 64) d)) ≡ rowAt (modelOf s) i
-unfolding seenOf
-seen-row s i d l = go (ltb i 64) refl
-  where
-    go : (x : Bool) → ltb i 64 ≡ x → cond x (rowOf (getD (s .rows) (i % 64) d)) empty ≡ rowAt (modelOf s) i
-    go true e =
-        let h : i < 64 = ltb-true i 64 e in
-        let m : i % 64 ≡ i = omega arith in
-        rw m (row-read s i d (omega arith))
-    go false e = row-none s i (omega (arith, ltb-false i 64 e))
+-- ---- a row of the sheet, read at i modulo 64
+row-below : (s : Sheet) (i : ℕ) (d : Row) → length (s .rows) ≡ 64 → i < 64 → rowOf (getD (s .rows) (i % 64) d) ≡ rowAt (modelOf s) i
+row-below s i d l h = let m : i % 64 ≡ i = omega arith in rw m (row-read s i d (omega arith))
 
 -- what the loop knows of a command that it runs
 pub record Running (s : Sheet) (c : Command) (a b : Row) (d : Action) : Type 0 where
   pub past : Row
   pub past′ : Row
-  pub first : rowOf a ≡ seenOf (c .a) (rowOf (getD (s .rows) (c .a % 64) past))
-  pub second : rowOf b ≡ seenOf (c .b) (rowOf (getD (s .rows) (c .b % 64) past′))
+  pub first : rowOf a ≡ rowOf (getD (s .rows) (c .a % 64) past)
+  pub second : rowOf b ≡ rowOf (getD (s .rows) (c .b % 64) past′)
   pub action : effectBy d ≡ within (c .t) (effectAt c (rowOf a) (rowOf b))
 
 -- the rows that its action names are the sheet's
@@ -71,7 +63,7 @@ range-two c a b d v w h q = range c a b d (PutTwo v w) h q
 running-step : (s : Sheet) (c : Command) (a b : Row) (d e : Action) → length (s .rows) ≡ 64 → Running s c a b d → d ≡ e
     → stepOf (modelOf s) c ≡ applied (modelOf s) (c .t) (effectBy e)
 running-step s c a b d e l r q =
-    sym (step-action s c a b d l (r .first ∙ seen-row s (c .a) (r .past) l) (r .second ∙ seen-row s (c .b) (r .past′) l) (r .action))
+    sym (step-action s c a b d l (λ h. r .first ∙ row-below s (c .a) (r .past) l h) (λ h. r .second ∙ row-below s (c .b) (r .past′) l h) (r .action))
     ∙ ap (λ (x : Action). applied (modelOf s) (c .t) (effectBy x)) q
 
 abbrev pub with-row : Sheet → ℕ → ℕ → Vec3 → Sheet

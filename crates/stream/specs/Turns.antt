@@ -1,13 +1,11 @@
 -- What functions of this crate promise each other: what the next bytes of an input come to, and an answer line written at a place of the lent bytes.
 use Prim.Native.Nat.{ℕ, _+_, _≤_, _<_}
 use mathlib.Core.Path.{_≡_}
-use mathlib.Core.Bool.{cond}
 use mathlib.Core.List.{List, [], _++_}
 use mathlib.Core.Option.{none}
-use lib.Dec.{ltb}
 use lib.ListN.{length, getD, take, drop}
 use Rattle.sheet.specs.declared.command.Command.{Command}
-use Rattle.sheet.specs.Rows.{ModelRow, Model, empty}
+use Rattle.sheet.specs.Rows.{Model}
 use Rattle.sheet.specs.Answers.{ModelAnswer}
 use Rattle.sheet.specs.Model.{stepOf}
 use Rattle.sheet.specs.Run.{commandOf}
@@ -20,10 +18,6 @@ use Rattle.stream.specs.Stream.{held, Fed, feedOf}
 -- the lent bytes with an answer line over the 43 from `at` on
 abbrev pub toldAt : ℕ → ModelAnswer → List ℕ → List ℕ
 toldAt at x out = take at out ++ (answerText x ++ drop (at + 43) out)
-
--- row i, given what was read for it: there is none from 64 on
-unfoldable pub seenOf : ℕ → ModelRow → ModelRow
-seenOf i r = cond (ltb i 64) r empty
 
 -- what a line that gives a command leaves and writes
 abbrev pub ranOf : Model → Command → Fed

@@ -6,16 +6,15 @@ ghost use Rattle.sheet.specs.Rows as Rows;
 ghost use Rattle.stream.specs.Stream.{held, heldOf, Feeds, endedOf};
 use crate::Stream;
 use crate::hear::Heard;
-use crate::hear::command;
 use crate::hear::hear;
-use crate::hear::seen;
 use crate::tell::tell;
 use crate::tell::tell_row;
 use sheet::command::Answer;
+use sheet::command::command_at;
+use sheet::effects::Action;
 use sheet::rows::Row;
 use sheet::rows::Sheet;
 use sheet::step::action_of;
-use sheet::work::Action;
 
 // The stream afterwards, how many bytes were taken, and how many put.
 pub struct Taken {
@@ -69,11 +68,12 @@ impl Stream {
             let mut f = [0u32; 7];
             match hear(bytes, i, &line[..len], &mut f) {
                 Heard::Run(took) => {
-                    let c = command(&f);
+                    let c = command_at(&f, 0);
+                    // A row above 63 is refused where it is used and not read where it is not: any row may stand in its place.
                     let a = (c.a % 64) as usize;
                     let b = (c.b % 64) as usize;
-                    let row_a = seen(c.a, sheet.rows[a]);
-                    let row_b = seen(c.b, sheet.rows[b]);
+                    let row_a = sheet.rows[a];
+                    let row_b = sheet.rows[b];
                     let at = put;
                     put += 43;
                     i += took;

@@ -2,12 +2,8 @@
 ghost use mathlib.Core.Path.{_≡_};
 ghost use Prim.Native.Nat.{_+_, _≤_, _<_};
 ghost use lib.ListN.{length};
-ghost use Rattle.sheet.specs.Rows.{rowOf};
-ghost use Rattle.sheet.specs.Run.{commandOf};
-ghost use Rattle.stream.specs.Turns.{Hears, seenOf};
+ghost use Rattle.stream.specs.Turns.{Hears};
 use lines::command_line::fields;
-use sheet::command::Command;
-use sheet::rows::Row;
 
 // The numbers of a line that ends in the next bytes, so many of them; a line that is ill formed; or a byte of a line.
 pub(crate) enum Heard {
@@ -52,27 +48,4 @@ pub(crate) fn hear(bytes: &[u8], i: usize, text: &[u8], f: &mut [u32]) -> Heard
     } else {
         hear_byte(bytes, i, text, f)
     }
-}
-
-// The command that the numbers of a line give.
-pub(crate) fn command(f: &[u32]) -> Command
-    requires { ⌜ length (now f) ≡ 7 ⌝ }
-    ensures { λ r. ⌜ r ≡ commandOf (now (f .entry)) ⌝ }
-{
-    Command {
-        number: f[0],
-        t: f[1],
-        a: f[2],
-        b: f[3],
-        u: f[4],
-        v: f[5],
-        w: f[6],
-    }
-}
-
-// Row i of a sheet, which the caller has read at i modulo 64: an empty row where there is none.
-pub(crate) fn seen(i: u32, row: Row) -> Row
-    ensures { λ r. ⌜ rowOf r ≡ seenOf i (rowOf row) ⌝ }
-{
-    if i < 64 { row } else { Row::EMPTY }
 }

@@ -3,10 +3,10 @@ ghost use mathlib.Core.Path.{_≡_};
 ghost use Rattle.sheet.specs.Rows.{modelOf};
 ghost use Rattle.sheet.specs.Answers.{answerOf};
 ghost use Rattle.stream.specs.Responses.{respondedBy, respondOf};
-use crate::hear::command;
 use crate::tell::put_answer;
 use lines::command_line::fields;
 use sheet::command::Answer;
+use sheet::command::command_at;
 use sheet::rows::Sheet;
 
 // The sheet after a line, and the number of the line's refusal, 0 where it is none: 9 where fewer than 43 bytes are lent.
@@ -39,7 +39,7 @@ pub fn respond(sheet: Sheet, line: &[u8], out: &mut [u8]) -> Told
     }
     let mut f = [0u32; 7];
     if fields(line, &mut f) {
-        let o = sheet.step(command(&f));
+        let o = sheet.step(command_at(&f, 0));
         let x = o.answer;
         put_answer(out, x);
         let s = o.sheet;

@@ -1,3 +1,4 @@
+-- `sheet::refusal::bad_source` meets its contract. Assumes nothing.
 use Rattle.sheet.specs.Refusals.{badSource}
 use borrow.Author.Needs.{needs}
 use Rattle.sheet.proofs.refusal.bad_source.Statement.{statement}

@@ -1,3 +1,4 @@
+-- `sheet::refusal::bad_value` meets its contract. Assumes nothing.
 use Rattle.sheet.specs.Refusals.{badValue}
 use borrow.Author.Needs.{needs}
 use Rattle.sheet.proofs.refusal.bad_value.Statement.{statement}

@@ -1,3 +1,4 @@
+-- `sheet::refusal::is_in` meets its contract. Assumes nothing.
 use borrow.Author.Tests.{le-ltb, lt-ltb}
 use Rattle.sheet.specs.CommandSets.{inSet}
 use borrow.Author.Needs.{needs}

@@ -1,3 +1,4 @@
+-- `sheet::refusal::no_next_row` meets its contract. Assumes nothing.
 use borrow.Author.Tests.{eq-eqb, ne-eqb}
 use Rattle.sheet.proofs.refusal.no_next_row.Statement.{statement}
 use Rattle.sheet.proofs.refusal.no_next_row.Tie as tie

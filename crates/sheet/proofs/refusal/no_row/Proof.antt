@@ -1,3 +1,4 @@
+-- `sheet::refusal::no_row` meets its contract. Assumes nothing.
 use Rattle.sheet.specs.Refusals.{noRow}
 use borrow.Author.Needs.{needs}
 use Rattle.sheet.proofs.refusal.no_row.Statement.{statement}

@@ -1,3 +1,4 @@
+-- `sheet::refusal::out_of_bounds` meets its contract. Assumes nothing.
 use borrow.Author.Needs.{needs}
 use Rattle.sheet.proofs.refusal.out_of_bounds.Statement.{statement}
 use Rattle.sheet.proofs.refusal.out_of_bounds.Tie as tie

@@ -1,3 +1,4 @@
+-- `sheet::refusal::out_of_range` meets its contract. Assumes nothing.
 use Rattle.sheet.specs.Refusals.{outOfRange}
 use borrow.Author.Needs.{needs}
 use Rattle.sheet.proofs.refusal.out_of_range.Statement.{statement}

@@ -1,3 +1,4 @@
+-- `sheet::refusal::refusal` meets its contract. Assumes nothing.
 use borrow.Author.Tests.{le-ltb, lt-ltb}
 use Rattle.sheet.specs.Work.{earlyOf}
 use Rattle.sheet.specs.Refusals.{unknown, first}

@@ -1,3 +1,4 @@
+-- `sheet::refusal::row_out` meets its contract. Assumes nothing.
 use borrow.Author.Needs.{needs}
 use Rattle.sheet.proofs.refusal.row_out.Statement.{statement}
 use Rattle.sheet.proofs.refusal.row_out.Tie as tie

@@ -1,3 +1,4 @@
+-- `sheet::refusal::source_bad` meets its contract. Assumes nothing.
 use borrow.Author.Needs.{needs}
 use Rattle.sheet.proofs.refusal.source_bad.Statement.{statement}
 use Rattle.sheet.proofs.refusal.source_bad.Tie as tie

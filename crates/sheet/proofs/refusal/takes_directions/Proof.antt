@@ -1,3 +1,4 @@
+-- `sheet::refusal::takes_directions` meets its contract. Assumes nothing.
 use borrow.Author.Tests.{le-leb, lt-leb}
 use Rattle.sheet.specs.Refusals.{takesDirections}
 use Rattle.sheet.proofs.refusal.takes_directions.Statement.{statement}

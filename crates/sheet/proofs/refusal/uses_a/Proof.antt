@@ -1,3 +1,4 @@
+-- `sheet::refusal::uses_a` meets its contract. Assumes nothing.
 use borrow.Author.Tests.{le-leb, lt-leb}
 use Rattle.sheet.specs.Fields.{usesA}
 use Rattle.sheet.proofs.refusal.uses_a.Statement.{statement}

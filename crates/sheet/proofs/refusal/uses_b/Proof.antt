@@ -1,3 +1,4 @@
+-- `sheet::refusal::uses_b` meets its contract. Assumes nothing.
 use mathlib.Core.Path.{_∙_}
 use Rattle.sheet.specs.Fields.{among, withB, usesB}
 use Rattle.sheet.specs.CommandSets.{inSet}

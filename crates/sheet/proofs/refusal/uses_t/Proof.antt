@@ -1,3 +1,4 @@
+-- `sheet::refusal::uses_t` meets its contract. Assumes nothing.
 use mathlib.Core.Path.{refl}
 use Rattle.sheet.specs.Fields.{usesT}
 use Rattle.sheet.proofs.refusal.uses_t.Statement.{statement}

@@ -1,3 +1,4 @@
+-- `sheet::refusal::uses_u` meets its contract. Assumes nothing.
 use mathlib.Core.Path.{_∙_}
 use Rattle.sheet.specs.Fields.{among, withU, usesU}
 use Rattle.sheet.specs.CommandSets.{inSet}

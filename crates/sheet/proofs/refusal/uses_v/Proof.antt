@@ -1,3 +1,4 @@
+-- `sheet::refusal::uses_v` meets its contract. Assumes nothing.
 use mathlib.Core.Path.{_∙_}
 use Rattle.sheet.specs.Fields.{among, withV, usesV}
 use Rattle.sheet.specs.CommandSets.{inSet}

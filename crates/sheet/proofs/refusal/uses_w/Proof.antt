@@ -1,3 +1,4 @@
+-- `sheet::refusal::uses_w` meets its contract. Assumes nothing.
 use mathlib.Core.Path.{_∙_}
 use Rattle.sheet.specs.Fields.{among, withW, usesW}
 use Rattle.sheet.specs.CommandSets.{inSet}

@@ -1,3 +1,4 @@
+-- `sheet::refusal::value_bad` meets its contract. Assumes nothing.
 use borrow.Author.Needs.{needs}
 use Rattle.sheet.proofs.refusal.value_bad.Statement.{statement}
 use Rattle.sheet.proofs.refusal.value_bad.Tie as tie

@@ -1,3 +1,4 @@
+-- `sheet::run::list_refusal` meets its contract. Assumes nothing.
 use borrow.Author.Tests.{eq-eqb, le-ltb, lt-ltb, ne-eqb}
 use Rattle.sheet.specs.Run.{refusalOfLengths}
 use borrow.Author.Needs.{needs}

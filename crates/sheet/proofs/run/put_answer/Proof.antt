@@ -1,3 +1,4 @@
+-- `sheet::run::put_answer` meets its contract. Assumes nothing.
 use Rattle.sheet.specs.Answers.{answerOf}
 use borrow.Author.Needs.{needs}
 use Rattle.sheet.proofs.run.put_answer.Statement.{statement}

@@ -1,3 +1,4 @@
+-- `sheet::run::put_six` meets its contract. Assumes nothing.
 use lib.ListN.{length-set}
 use native.Mathlib.Omega.{arith}
 use native.Mathlib.Numerals.{towards-suc}

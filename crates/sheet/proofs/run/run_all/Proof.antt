@@ -1,10 +1,11 @@
+-- `sheet::run::run_all` meets its contract. Assumes nothing.
 use Prim.Native.Nat.{_-_}
 use mathlib.Core.Path.{refl, sym, ap, _∙_}
 use native.Mathlib.Omega.{arith}
 use borrow.Author.Needs.{needs}
-use Rattle.sheet.proofs.RunLaws.{Held, held-none, held-more, length-held, lengths-room, run-done, run-refused}
 use Rattle.sheet.specs.Rows.{modelOf}
 use Rattle.sheet.specs.Model.{stepOf}
+use Rattle.sheet.proofs.RunLaws.{Held, held-none, held-more, length-held, lengths-room, run-done, run-refused}
 use Rattle.sheet.proofs.run.run_all.Statement.{statement}
 use Rattle.sheet.proofs.run.run_all.Tie as tie
 
@@ -48,9 +49,10 @@ loop-less c = omega arith
 
 loop-again : tie.Need-loop-again Inv-loop μ-loop
 loop-again c =
-    let loop = c .before .before .before .before .before .before .before .before .loop in
-    held-more _ _ _ _ (loop .sheet) _ _ (c .before .before .before .before .before .step .result) (loop .inv) (c .before .before .before .before .before .before .before .loop-test .taken)
-    (c .before .before .before .before .before .step .ensures ∙ ap (stepOf (modelOf (loop .sheet))) (c .before .before .before .before .before .before .command-at .ensures)) (c .before .before .before .put-answer .ensures)
+    let stepped = c .before .before .before .before .before in
+    let loop = stepped .before .before .before .loop in
+    held-more _ _ _ _ (loop .sheet) _ _ (stepped .step .result) (loop .inv) (stepped .before .before .loop-test .taken)
+    (stepped .step .ensures ∙ ap (stepOf (modelOf (loop .sheet))) (stepped .before .command-at .ensures)) (c .before .before .before .put-answer .ensures)
 
 same-length : tie.Need-same-length Inv-loop μ-loop
 same-length c = length-held (c .before .loop .inv)

@@ -1,3 +1,4 @@
+-- `sheet::step::action_within` meets its contract. Assumes nothing.
 use Rattle.sheet.specs.Answers.{answerOf}
 use Rattle.sheet.specs.Work.{effectBy}
 use Rattle.sheet.specs.Step.{within}

@@ -1,7 +1,8 @@
+-- `stream::Stream::feed` meets its contract. Assumes nothing.
 use borrow.Author.Needs.{needs}
 use Prim.Native.Nat.{_-_}
 use native.Mathlib.Omega.{arith}
-use mathlib.Core.Path.{_≡_, sym}
+use mathlib.Core.Path.{_≡_, refl, sym}
 use lib.ListN.{length, take}
 use lib.Seq.{length-take-le}
 use Rattle.sheet.specs.Rows.{modelOf}
@@ -55,11 +56,11 @@ hear-requires c κs = (c .before .before .before .loop-test .taken, search needs
 enum-known-took : tie.Need-enum-known-took Inv-loop μ-loop
 enum-known-took c = search needs
 
-slice-aggregate-command : tie.Need-slice-aggregate-command Inv-loop μ-loop
-slice-aggregate-command c = search needs
+slice-aggregate-command-at : tie.Need-slice-aggregate-command-at Inv-loop μ-loop
+slice-aggregate-command-at c = search needs
 
-command-requires : tie.Need-command-requires Inv-loop μ-loop
-command-requires c κs = search needs
+command-at-requires : tie.Need-command-at-requires Inv-loop μ-loop
+command-at-requires c κs = search needs
 
 cast-a : tie.Need-cast-a Inv-loop μ-loop
 cast-a c = search needs
@@ -67,29 +68,31 @@ cast-a c = search needs
 cast-b : tie.Need-cast-b Inv-loop μ-loop
 cast-b c = search needs
 
-mul-seen : tie.Need-mul-seen Inv-loop μ-loop
-mul-seen c = search needs
+mul-row-a : tie.Need-mul-row-a Inv-loop μ-loop
+mul-row-a c = search needs
 
-element-copy-out-seen : tie.Need-element-copy-out-seen Inv-loop μ-loop
-element-copy-out-seen c = search needs
+element-copy-out-row-a : tie.Need-element-copy-out-row-a Inv-loop μ-loop
+element-copy-out-row-a c = search needs
 
-seen-requires : tie.Need-seen-requires Inv-loop μ-loop
-seen-requires c κs = search needs
+mul-row-b : tie.Need-mul-row-b Inv-loop μ-loop
+mul-row-b c = search needs
 
-mul-seen-2 : tie.Need-mul-seen-2 Inv-loop μ-loop
-mul-seen-2 c = search needs
-
-element-copy-out-seen-2 : tie.Need-element-copy-out-seen-2 Inv-loop μ-loop
-element-copy-out-seen-2 c = search needs
-
-seen-requires-2 : tie.Need-seen-requires-2 Inv-loop μ-loop
-seen-requires-2 c κs = search needs
+element-copy-out-row-b : tie.Need-element-copy-out-row-b Inv-loop μ-loop
+element-copy-out-row-b c = search needs
 
 add-put : tie.Need-add-put Inv-loop μ-loop
-add-put c = omega (arith, c .before .before .before .before .before .before .before .before .before .before .before .before .before .before .before .before .before .before .before .before .before .before .before .good .1 .1 .0, c .before .before .before .before .before .before .before .before .before .before .before .before .before .before .before .before .before .loop .inv .fed .fits, c .before .before .before .before .before .before .before .before .before .before .before .before .before .before .before .if1 .left, length-feeding (c .before .before .before .before .before .before .before .before .before .before .before .before .before .before .before .before .before .loop .inv .fed))
+add-put c =
+    let at-if = c .before .before .before .before .before .before .before .before .before .before .before .before .before in
+    let at-loop = at-if .before .before in
+    let at-good = at-loop .before .before .before .before .before .before in
+    omega (arith, at-good .good .1 .1 .0, at-loop .loop .inv .fed .fits, at-if .if1 .left, length-feeding (at-loop .loop .inv .fed))
 
 add-i : tie.Need-add-i Inv-loop μ-loop
-add-i c = let r = (rw (c .before .before .before .before .before .before .before .before .before .took .given .1) at (c .before .before .before .before .before .before .before .before .before .before .before .before .hear .ensures)) in omega (arith, c .before .before .before .before .before .before .before .before .before .before .before .before .before .before .before .before .before .before .before .before .before .before .before .good .1 .0, r .part)
+add-i c =
+    let at-took = c .before .before .before .before .before .before .before in
+    let at-hear = at-took .before .before .before in
+    let at-good = at-hear .before .before .before .before .before .before .before .before .before .before .before in
+    let r = (rw (at-took .took .given .1) at (at-hear .hear .ensures)) in omega (arith, at-good .good .1 .0, r .part)
 
 action-of-requires : tie.Need-action-of-requires Inv-loop μ-loop
 action-of-requires c κs = search needs
@@ -98,13 +101,27 @@ enum-known-x : tie.Need-enum-known-x Inv-loop μ-loop
 enum-known-x c = search needs
 
 tell-requires : tie.Need-tell-requires Inv-loop μ-loop
-tell-requires c κs = omega (arith, c .before .before .before .before .before .before .before .before .before .before .before .before .before .before .before .before .before .before .before .before .before .before .loop .inv .fed .fits, c .before .before .before .before .before .before .before .before .before .before .before .before .before .before .before .before .before .before .before .before .if1 .left, length-feeding (c .before .before .before .before .before .before .before .before .before .before .before .before .before .before .before .before .before .before .before .before .before .before .loop .inv .fed))
+tell-requires c κs =
+    let at-if = c .before .before .before .before .before .before .before .before .before .before .before .before .before .before .before .before .before .before in
+    let at-loop = at-if .before .before in
+    omega (arith, at-loop .loop .inv .fed .fits, at-if .if1 .left, length-feeding (at-loop .loop .inv .fed))
 
 loop-less : tie.Need-loop-less Inv-loop μ-loop
-loop-less c = let r = (rw (c .before .before .before .before .before .before .before .before .before .before .before .before .before .before .before .before .before .took .given .1) at (c .before .before .before .before .before .before .before .before .before .before .before .before .before .before .before .before .before .before .before .before .hear .ensures)) in omega (arith, r .part, r .some-byte)
+loop-less c =
+    let at-took = c .before .before .before .before .before .before .before .before .before .before .before .before .before .before .before in
+    let at-hear = at-took .before .before .before in
+    let r = (rw (at-took .took .given .1) at (at-hear .hear .ensures)) in omega (arith, r .part, r .some-byte)
 
 loop-again : tie.Need-loop-again Inv-loop μ-loop
-loop-again c = turn-tell (c .before .before .before .before .before .before .before .before .before .before .before .before .before .before .before .before .before .before .before .before .before .before .before .before .before .loop .inv) _ (rw (c .before .before .before .before .before .before .before .before .before .before .before .before .before .before .before .before .before .took .given .1) at (c .before .before .before .before .before .before .before .before .before .before .before .before .before .before .before .before .before .before .before .before .hear .ensures)) (c .before .before .before .before .before .before .before .before .before .before .before .before .before .before .command .ensures) (omega (arith, c .before .before .before .before .before .before .before .before .before .before .before .before .before .before .before .before .before .before .before .before .before .before .before .before .before .loop .inv .fed .fits, c .before .before .before .before .before .before .before .before .before .before .before .before .before .before .before .before .before .before .before .before .before .before .before .if1 .left, length-feeding (c .before .before .before .before .before .before .before .before .before .before .before .before .before .before .before .before .before .before .before .before .before .before .before .before .before .loop .inv .fed))) (record { past = _; past′ = _; first = c .before .before .before .before .before .before .before .before .before .before .seen .ensures; second = c .before .before .before .before .before .before .before .before .seen2 .ensures; action = c .before .before .before .before .before .before .before .action-of .ensures }) _ (c .before .before .before .before .before .x .given .1) (c .before .before .tell .ensures)
+loop-again c =
+    let at-x = c .before .before .before .before .before in
+    let at-action-of = at-x .before .before in
+    let at-command-at = at-action-of .before .before .before .before .before in
+    let at-took = at-command-at .before .before .before in
+    let at-hear = at-took .before .before .before in
+    let at-if = at-hear .before .before .before in
+    let at-loop = at-if .before .before in
+    turn-tell (at-loop .loop .inv) _ (rw (at-took .took .given .1) at (at-hear .hear .ensures)) (at-command-at .command-at .ensures) (omega (arith, at-loop .loop .inv .fed .fits, at-if .if1 .left, length-feeding (at-loop .loop .inv .fed))) (record { past = _; past′ = _; first = refl; second = refl; action = at-action-of .action-of .ensures }) _ (at-x .x .given .1) (c .before .before .tell .ensures)
 
 enum-known-kind : tie.Need-enum-known-kind Inv-loop μ-loop
 enum-known-kind c = search needs
@@ -119,13 +136,27 @@ element-set-from-row : tie.Need-element-set-from-row Inv-loop μ-loop
 element-set-from-row c = range-put _ _ _ _ _ _ (c .before .before .before .before .action-of .ensures) (c .before .before .kind .given .1)
 
 tell-row-requires : tie.Need-tell-row-requires Inv-loop μ-loop
-tell-row-requires c κs = omega (arith, c .before .before .before .before .before .before .before .before .before .before .before .before .before .before .before .before .before .before .before .before .before .before .before .loop .inv .fed .fits, c .before .before .before .before .before .before .before .before .before .before .before .before .before .before .before .before .before .before .before .before .before .if1 .left, length-feeding (c .before .before .before .before .before .before .before .before .before .before .before .before .before .before .before .before .before .before .before .before .before .before .before .loop .inv .fed))
+tell-row-requires c κs =
+    let at-if = c .before .before .before .before .before .before .before .before .before .before .before .before .before .before .before .before .before .before .before in
+    let at-loop = at-if .before .before in
+    omega (arith, at-loop .loop .inv .fed .fits, at-if .if1 .left, length-feeding (at-loop .loop .inv .fed))
 
 loop-less-2 : tie.Need-loop-less-2 Inv-loop μ-loop
-loop-less-2 c = let r = (rw (c .before .before .before .before .before .before .before .before .before .before .before .before .before .before .before .before .before .before .took .given .1) at (c .before .before .before .before .before .before .before .before .before .before .before .before .before .before .before .before .before .before .before .before .before .hear .ensures)) in omega (arith, r .part, r .some-byte)
+loop-less-2 c =
+    let at-took = c .before .before .before .before .before .before .before .before .before .before .before .before .before .before .before .before in
+    let at-hear = at-took .before .before .before in
+    let r = (rw (at-took .took .given .1) at (at-hear .hear .ensures)) in omega (arith, r .part, r .some-byte)
 
 loop-again-2 : tie.Need-loop-again-2 Inv-loop μ-loop
-loop-again-2 c = turn-put (c .before .before .before .before .before .before .before .before .before .before .before .before .before .before .before .before .before .before .before .before .before .before .before .before .before .before .loop .inv) _ (rw (c .before .before .before .before .before .before .before .before .before .before .before .before .before .before .before .before .before .before .took .given .1) at (c .before .before .before .before .before .before .before .before .before .before .before .before .before .before .before .before .before .before .before .before .before .hear .ensures)) (c .before .before .before .before .before .before .before .before .before .before .before .before .before .before .before .command .ensures) (omega (arith, c .before .before .before .before .before .before .before .before .before .before .before .before .before .before .before .before .before .before .before .before .before .before .before .before .before .before .loop .inv .fed .fits, c .before .before .before .before .before .before .before .before .before .before .before .before .before .before .before .before .before .before .before .before .before .before .before .before .if1 .left, length-feeding (c .before .before .before .before .before .before .before .before .before .before .before .before .before .before .before .before .before .before .before .before .before .before .before .before .before .before .loop .inv .fed))) (record { past = _; past′ = _; first = c .before .before .before .before .before .before .before .before .before .before .before .seen .ensures; second = c .before .before .before .before .before .before .before .before .before .seen2 .ensures; action = c .before .before .before .before .before .before .before .before .action-of .ensures }) _ _ (c .before .before .before .before .before .before .kind .given .1) (c .before .before .tell-row .ensures)
+loop-again-2 c =
+    let at-kind = c .before .before .before .before .before .before in
+    let at-action-of = at-kind .before .before in
+    let at-command-at = at-action-of .before .before .before .before .before in
+    let at-took = at-command-at .before .before .before in
+    let at-hear = at-took .before .before .before in
+    let at-if = at-hear .before .before .before in
+    let at-loop = at-if .before .before in
+    turn-put (at-loop .loop .inv) _ (rw (at-took .took .given .1) at (at-hear .hear .ensures)) (at-command-at .command-at .ensures) (omega (arith, at-loop .loop .inv .fed .fits, at-if .if1 .left, length-feeding (at-loop .loop .inv .fed))) (record { past = _; past′ = _; first = refl; second = refl; action = at-action-of .action-of .ensures }) _ _ (at-kind .kind .given .1) (c .before .before .tell-row .ensures)
 
 enum-known-v : tie.Need-enum-known-v Inv-loop μ-loop
 enum-known-v c = search needs
@@ -149,22 +180,43 @@ element-set-from-next : tie.Need-element-set-from-next Inv-loop μ-loop
 element-set-from-next c = let h = range-two _ _ _ _ _ _ (c .before .before .before .before .action-of .ensures) (c .before .before .v .given .1) in omega arith
 
 tell-row-requires-2 : tie.Need-tell-row-requires-2 Inv-loop μ-loop
-tell-row-requires-2 c κs = omega (arith, c .before .before .before .before .before .before .before .before .before .before .before .before .before .before .before .before .before .before .before .before .before .before .before .loop .inv .fed .fits, c .before .before .before .before .before .before .before .before .before .before .before .before .before .before .before .before .before .before .before .before .before .if1 .left, length-feeding (c .before .before .before .before .before .before .before .before .before .before .before .before .before .before .before .before .before .before .before .before .before .before .before .loop .inv .fed))
+tell-row-requires-2 c κs =
+    let at-if = c .before .before .before .before .before .before .before .before .before .before .before .before .before .before .before .before .before .before .before in
+    let at-loop = at-if .before .before in
+    omega (arith, at-loop .loop .inv .fed .fits, at-if .if1 .left, length-feeding (at-loop .loop .inv .fed))
 
 loop-less-3 : tie.Need-loop-less-3 Inv-loop μ-loop
-loop-less-3 c = let r = (rw (c .before .before .before .before .before .before .before .before .before .before .before .before .before .before .before .before .before .before .took .given .1) at (c .before .before .before .before .before .before .before .before .before .before .before .before .before .before .before .before .before .before .before .before .before .hear .ensures)) in omega (arith, r .part, r .some-byte)
+loop-less-3 c =
+    let at-took = c .before .before .before .before .before .before .before .before .before .before .before .before .before .before .before .before in
+    let at-hear = at-took .before .before .before in
+    let r = (rw (at-took .took .given .1) at (at-hear .hear .ensures)) in omega (arith, r .part, r .some-byte)
 
 loop-again-3 : tie.Need-loop-again-3 Inv-loop μ-loop
-loop-again-3 c = turn-two (c .before .before .before .before .before .before .before .before .before .before .before .before .before .before .before .before .before .before .before .before .before .before .before .before .before .before .loop .inv) _ (rw (c .before .before .before .before .before .before .before .before .before .before .before .before .before .before .before .before .before .before .took .given .1) at (c .before .before .before .before .before .before .before .before .before .before .before .before .before .before .before .before .before .before .before .before .before .hear .ensures)) (c .before .before .before .before .before .before .before .before .before .before .before .before .before .before .before .command .ensures) (omega (arith, c .before .before .before .before .before .before .before .before .before .before .before .before .before .before .before .before .before .before .before .before .before .before .before .before .before .before .loop .inv .fed .fits, c .before .before .before .before .before .before .before .before .before .before .before .before .before .before .before .before .before .before .before .before .before .before .before .before .if1 .left, length-feeding (c .before .before .before .before .before .before .before .before .before .before .before .before .before .before .before .before .before .before .before .before .before .before .before .before .before .before .loop .inv .fed))) (record { past = _; past′ = _; first = c .before .before .before .before .before .before .before .before .before .before .before .seen .ensures; second = c .before .before .before .before .before .before .before .before .before .seen2 .ensures; action = c .before .before .before .before .before .before .before .before .action-of .ensures }) _ _ (c .before .before .before .before .before .before .v .given .1) (c .before .before .tell-row2 .ensures)
+loop-again-3 c =
+    let at-v = c .before .before .before .before .before .before in
+    let at-action-of = at-v .before .before in
+    let at-command-at = at-action-of .before .before .before .before .before in
+    let at-took = at-command-at .before .before .before in
+    let at-hear = at-took .before .before .before in
+    let at-if = at-hear .before .before .before in
+    let at-loop = at-if .before .before in
+    turn-two (at-loop .loop .inv) _ (rw (at-took .took .given .1) at (at-hear .hear .ensures)) (at-command-at .command-at .ensures) (omega (arith, at-loop .loop .inv .fed .fits, at-if .if1 .left, length-feeding (at-loop .loop .inv .fed))) (record { past = _; past′ = _; first = refl; second = refl; action = at-action-of .action-of .ensures }) _ _ (at-v .v .given .1) (c .before .before .tell-row2 .ensures)
 
 enum-told : tie.Need-enum-told Inv-loop μ-loop
 enum-told c = search needs
 
 tell-requires-2 : tie.Need-tell-requires-2 Inv-loop μ-loop
-tell-requires-2 c κs = omega (arith, c .before .before .before .before .before .before .before .before .before .loop .inv .fed .fits, c .before .before .before .before .before .before .before .if1 .left, length-feeding (c .before .before .before .before .before .before .before .before .before .loop .inv .fed))
+tell-requires-2 c κs =
+    let at-if = c .before .before .before .before .before .before .before in
+    let at-loop = at-if .before .before in
+    omega (arith, at-loop .loop .inv .fed .fits, at-if .if1 .left, length-feeding (at-loop .loop .inv .fed))
 
 add-put-2 : tie.Need-add-put-2 Inv-loop μ-loop
-add-put-2 c = omega (arith, c .before .before .before .before .before .before .before .before .before .before .before .before .before .before .before .before .before .before .good .1 .1 .0, c .before .before .before .before .before .before .before .before .before .before .before .before .loop .inv .fed .fits, c .before .before .before .before .before .before .before .before .before .before .if1 .left, length-feeding (c .before .before .before .before .before .before .before .before .before .before .before .before .loop .inv .fed))
+add-put-2 c =
+    let at-if = c .before .before .before .before .before .before .before .before .before .before in
+    let at-loop = at-if .before .before in
+    let at-good = at-loop .before .before .before .before .before .before in
+    omega (arith, at-good .good .1 .1 .0, at-loop .loop .inv .fed .fits, at-if .if1 .left, length-feeding (at-loop .loop .inv .fed))
 
 add-i-2 : tie.Need-add-i-2 Inv-loop μ-loop
 add-i-2 c = omega (arith, c .before .before .before .before .before .before .before .before .before .before .before .loop-test .taken)
@@ -174,7 +226,12 @@ loop-less-4 c = omega (arith, c .before .before .before .before .before .before 
 
 loop-again-4 : tie.Need-loop-again-4 Inv-loop μ-loop
 unfolding answerOf
-loop-again-4 c = turn-ill (c .before .before .before .before .before .before .before .before .before .before .before .before .loop .inv) _ (c .before .before .before .before .before .before .before .before .before .before .before .loop-test .taken) (rw (c .before .before .before .before .enum-told .given .1) at (c .before .before .before .before .before .before .before .hear .ensures)) (omega (arith, c .before .before .before .before .before .before .before .before .before .before .before .before .loop .inv .fed .fits, c .before .before .before .before .before .before .before .before .before .before .if1 .left, length-feeding (c .before .before .before .before .before .before .before .before .before .before .before .before .loop .inv .fed))) (c .before .before .tell2 .ensures)
+loop-again-4 c =
+    let at-hear = c .before .before .before .before .before .before .before in
+    let at-if = at-hear .before .before .before in
+    let at-loop-test = at-if .before in
+    let at-loop = at-loop-test .before in
+    turn-ill (at-loop .loop .inv) _ (at-loop-test .loop-test .taken) (rw (c .before .before .before .before .enum-told .given .1) at (at-hear .hear .ensures)) (omega (arith, at-loop .loop .inv .fed .fits, at-if .if1 .left, length-feeding (at-loop .loop .inv .fed))) (c .before .before .tell2 .ensures)
 
 enum-known-b : tie.Need-enum-known-b Inv-loop μ-loop
 enum-known-b c = search needs
@@ -192,7 +249,11 @@ loop-less-5 : tie.Need-loop-less-5 Inv-loop μ-loop
 loop-less-5 c = omega (arith, c .before .before .before .before .before .before .before .before .before .loop-test .taken)
 
 loop-again-5 : tie.Need-loop-again-5 Inv-loop μ-loop
-loop-again-5 c = turn-push (c .before .before .before .before .before .before .before .before .before .before .loop .inv) _ (c .before .before .before .before .before .before .before .before .before .loop-test .taken) (rw (c .before .before .b .given .1) at (c .before .before .before .before .before .hear .ensures)) (c .if2 .taken)
+loop-again-5 c =
+    let at-hear = c .before .before .before .before .before in
+    let at-loop-test = at-hear .before .before .before .before in
+    let at-loop = at-loop-test .before in
+    turn-push (at-loop .loop .inv) _ (at-loop-test .loop-test .taken) (rw (c .before .before .b .given .1) at (at-hear .hear .ensures)) (c .if2 .taken)
 
 add-i-4 : tie.Need-add-i-4 Inv-loop μ-loop
 add-i-4 c = omega (arith, c .before .before .before .before .before .before .before .before .before .loop-test .taken)
@@ -201,7 +262,11 @@ loop-less-6 : tie.Need-loop-less-6 Inv-loop μ-loop
 loop-less-6 c = omega (arith, c .before .before .before .before .before .before .before .before .before .loop-test .taken)
 
 loop-again-6 : tie.Need-loop-again-6 Inv-loop μ-loop
-loop-again-6 c = turn-full (c .before .before .before .before .before .before .before .before .before .before .loop .inv) _ (c .before .before .before .before .before .before .before .before .before .loop-test .taken) (rw (c .before .before .b .given .1) at (c .before .before .before .before .before .hear .ensures)) (c .if2 .left)
+loop-again-6 c =
+    let at-hear = c .before .before .before .before .before in
+    let at-loop-test = at-hear .before .before .before .before in
+    let at-loop = at-loop-test .before in
+    turn-full (at-loop .loop .inv) _ (at-loop-test .loop-test .taken) (rw (c .before .before .b .given .1) at (at-hear .hear .ensures)) (c .if2 .left)
 
 same-length-2 : tie.Need-same-length-2 Inv-loop μ-loop
 same-length-2 c = length-feeding (c .before .loop .inv .fed)
@@ -228,16 +293,14 @@ feed-spec =
     slice-aggregate-hear-2
     hear-requires
     enum-known-took
-    slice-aggregate-command
-    command-requires
+    slice-aggregate-command-at
+    command-at-requires
     cast-a
     cast-b
-    mul-seen
-    element-copy-out-seen
-    seen-requires
-    mul-seen-2
-    element-copy-out-seen-2
-    seen-requires-2
+    mul-row-a
+    element-copy-out-row-a
+    mul-row-b
+    element-copy-out-row-b
     add-put
     add-i
     action-of-requires

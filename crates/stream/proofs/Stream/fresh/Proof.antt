@@ -1,3 +1,4 @@
+-- `stream::Stream::fresh` meets its contract. Assumes nothing.
 use mathlib.Core.Path.{ap}
 use mathlib.Core.List.{[]}
 use Rattle.sheet.specs.Rows.{Model}

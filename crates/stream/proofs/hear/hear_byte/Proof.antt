@@ -1,3 +1,4 @@
+-- `stream::hear::hear_byte` meets its contract. Assumes nothing.
 use mathlib.Core.Path.{sym, _∙_}
 use Rattle.stream.proofs.HearLaws.{read-all, read-none, hear-end}
 use borrow.Author.Needs.{needs}
@@ -25,7 +26,10 @@ same-length-2 : tie.Need-same-length-2
 same-length-2 c = search needs
 
 returns-3 : tie.Need-returns-3
-returns-3 c = record { line-feed = c .before .before .before .before .before .if1 .left; no-numbers = read-none _ _ (c .before .before .before .before .before .before .before .before .before .before .pre .1) (sym (c .if2 .left) ∙ c .before .before .before .fields .ensures .0) }
+returns-3 c =
+    let at-if = c .before .before .before .before .before in
+    let at-pre = at-if .before .before .before .before .before in
+    record { line-feed = at-if .if1 .left; no-numbers = read-none _ _ (at-pre .pre .1) (sym (c .if2 .left) ∙ c .before .before .before .fields .ensures .0) }
 
 pub hear-byte-spec : {M : Type 1} → statement M
 hear-byte-spec =

@@ -1,3 +1,4 @@
+-- `stream::respond::respond` meets its contract. Assumes nothing.
 use mathlib.Core.Path.{refl, sym, ap, _∙_}
 use Rattle.sheet.specs.Answers.{answerOf}
 use Rattle.sheet.specs.Model.{stepOf}
@@ -16,11 +17,11 @@ slice-aggregate-fields c = search needs
 fields-requires : tie.Need-fields-requires
 fields-requires c κs = search needs
 
-slice-aggregate-command : tie.Need-slice-aggregate-command
-slice-aggregate-command c = search needs
+slice-aggregate-command-at : tie.Need-slice-aggregate-command-at
+slice-aggregate-command-at c = search needs
 
-command-requires : tie.Need-command-requires
-command-requires c κs = search needs
+command-at-requires : tie.Need-command-at-requires
+command-at-requires c κs = search needs
 
 step-requires : tie.Need-step-requires
 step-requires c κs = search needs
@@ -40,7 +41,7 @@ same-length c = search needs
 returns-2 : tie.Need-returns-2
 returns-2 c =
     respond-ran _ _ _ _ (c .before .before .before .before .before .before .before .before .before .before .before .before .before .if1 .left) _ (c .before .before .before .before .before .before .step .result) _ (read-all _ _ refl _ (sym (c .before .before .before .before .before .before .before .before .before .if2 .taken) ∙ c .before .before .before .before .before .before .before .before .before .before .before .fields .ensures .0) (c .before .before .before .before .before .before .before .before .before .before .before .fields .ensures .1))
-    (c .before .before .before .before .before .before .step .ensures ∙ ap (stepOf _) (c .before .before .before .before .before .before .before .command .ensures)) (c .refusal-of .ensures) (c .before .before .before .before .put-answer .ensures)
+    (c .before .before .before .before .before .before .step .ensures ∙ ap (stepOf _) (c .before .before .before .before .before .before .before .command-at .ensures)) (c .refusal-of .ensures) (c .before .before .before .before .put-answer .ensures)
 
 same-length-2 : tie.Need-same-length-2
 same-length-2 c = search needs
@@ -57,8 +58,8 @@ respond-spec =
     returns
     slice-aggregate-fields
     fields-requires
-    slice-aggregate-command
-    command-requires
+    slice-aggregate-command-at
+    command-at-requires
     step-requires
     put-answer-requires
     refusal-of-requires

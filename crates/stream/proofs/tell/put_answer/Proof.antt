@@ -1,3 +1,4 @@
+-- `stream::tell::put_answer` meets its contract. Assumes nothing.
 use mathlib.Core.Path.{_∙_}
 use Rattle.sheet.specs.Answers.{answerOf, refused, shown, number, whole}
 use Rattle.stream.proofs.AnswerLaws.{put-text}
@@ -62,7 +63,10 @@ same-length-3 c = search needs
 
 returns-3 : tie.Need-returns-3
 unfolding answerOf
-returns-3 c = rw (c .before .before .before .before .before .before .x3 .given .1) (rw (c .before .before .before .to-bits4 .ensures) at (c .before .before .put-six3 .ensures) ∙ put-text (number _) _ (c .before .before .before .before .before .before .before .before .before .pre))
+returns-3 c =
+    let at-x = c .before .before .before .before .before .before in
+    let at-pre = at-x .before .before .before in
+    rw (at-x .x3 .given .1) (rw (c .before .before .before .to-bits4 .ensures) at (c .before .before .put-six3 .ensures) ∙ put-text (number _) _ (at-pre .pre))
 
 same-length-4 : tie.Need-same-length-4
 same-length-4 c = search needs

@@ -1,3 +1,4 @@
+-- `stream::tell::tell` meets its contract. Assumes nothing.
 use Rattle.stream.proofs.AnswerLaws.{told-part}
 use borrow.Author.Needs.{needs}
 use Rattle.stream.proofs.tell.tell.Statement.{statement}

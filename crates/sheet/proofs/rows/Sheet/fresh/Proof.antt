@@ -1,3 +1,4 @@
+-- `sheet::rows::Sheet::fresh` meets its contract. Assumes nothing.
 use mathlib.Core.Path.{refl}
 use Rattle.sheet.specs.Rows as Rows
 use Rattle.sheet.specs.Rows.{modelOf}

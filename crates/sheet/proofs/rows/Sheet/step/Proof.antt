@@ -1,10 +1,11 @@
+-- `sheet::rows::Sheet::step` meets its contract. Assumes nothing.
 use mathlib.Core.Path.{_≡_, sym, ap, _∙_, subst}
 use Prim.Native.Nat.{ℕ, _+_, _<_}
 use lib.ListN.{length}
 use Rattle.vector.specs.declared.vec3.Vec3.{Vec3}
 use Rattle.sheet.specs.declared.command.Answer.the-variants.{Shown}
-use Rattle.sheet.specs.declared.work.Action.{Action}
-use Rattle.sheet.specs.declared.work.Action.the-variants.{Put, PutTwo}
+use Rattle.sheet.specs.declared.effects.Action.{Action}
+use Rattle.sheet.specs.declared.effects.Action.the-variants.{Put, PutTwo}
 use Rattle.sheet.specs.declared.command.Command.{Command}
 use Rattle.sheet.specs.declared.rows.Sheet.{Sheet}
 use Rattle.sheet.specs.Rows.{Model, direction, modelOf, written}
@@ -63,7 +64,7 @@ module _ (c : lts.After-action-of (row-reads.Asked, row-reads.Learnt, action-of-
   stepped : applied (modelOf sheet) (command .t) (effectBy (c .action-of .result)) ≡ stepOf (modelOf sheet) command
   stepped =
       step-action sheet command (c .before .before .row .result) (c .before .row2 .result) (c .action-of .result) (has-rows (c .before .before .before))
-      (c .before .before .row .ensures) (c .before .row2 .ensures) (c .action-of .ensures)
+      (λ l. c .before .before .row .ensures) (λ l. c .before .row2 .ensures) (c .action-of .ensures)
 
   by : (d : Action) → c .action-of .result ≡ d → applied (modelOf sheet) (command .t) (effectBy d) ≡ stepOf (modelOf sheet) command
   by d e = ap (λ (x : Action). applied (modelOf sheet) (command .t) (effectBy x)) (sym e) ∙ stepped

@@ -1,3 +1,4 @@
+-- `sheet::rows::Sheet::with_row` meets its contract. Assumes nothing.
 use mathlib.Core.Path.{_≡_}
 use native.Mathlib.Omega.{arith}
 use lib.ListN.{length}

@@ -1,9 +1,0 @@
-use mathlib.Core.Path.{refl}
-use Rattle.sheet.proofs.work.projections.is_direction.Statement.{statement}
-use Rattle.sheet.proofs.work.projections.is_direction.Tie as tie
-
-returns : tie.Need-returns
-returns c = refl
-
-pub is-direction-spec : {M : Type 1} → statement M
-is-direction-spec = tie.close (tie.spec returns)

@@ -1,0 +1,81 @@
+// Directions as actions: a command that needs a direction takes it or refuses at that point.
+ghost use mathlib.Core.Path.{_≡_};
+ghost use Rattle.vector.specs.Vectors.{vec};
+ghost use Rattle.vector.specs.Optics as Optics;
+ghost use Rattle.sheet.specs.Results as Results;
+ghost use Rattle.sheet.specs.Outcomes as Outcomes;
+ghost use Rattle.sheet.specs.Work.{effectBy};
+use crate::command::Answer;
+use crate::effects::Action;
+use scalar::sign::is_finite;
+use vector::vec3::Vec3;
+use vector::vec3::normalizing::Normalized;
+use vector::vec3::orthogonal::Pair;
+
+// 2^-126, the least squared length that a direction is taken of.
+const LEAST: f32 = 1.17549435e-38;
+
+// The direction of (x, y, z). Three numbers go in registers, where a vector would go through memory.
+fn direction_of_numbers(x: f32, y: f32, z: f32) -> Normalized
+    ensures { λ r. ⌜ r ≡ Results.directionOf (vec x y z) ⌝ }
+{
+    let v = Vec3 { x: x, y: y, z: z };
+    let length_squared = v.length_squared();
+    if length_squared < LEAST {
+        return Normalized::Nothing;
+    }
+    if is_finite(length_squared) {
+        v.try_normalize()
+    } else {
+        Normalized::Nothing
+    }
+}
+
+// "Direction of" a vector: none where its squared length is below 2^-126 or not finite.
+pub(crate) fn direction_of(v: Vec3) -> Normalized
+    ensures { λ r. ⌜ r ≡ Results.directionOf v ⌝ }
+{
+    direction_of_numbers(v.x, v.y, v.z)
+}
+
+// The direction of v as a row, or refusal 7.
+pub(crate) fn direction(v: Vec3) -> Action
+    ensures { λ r. ⌜ effectBy r ≡ Outcomes.directionDone v ⌝ }
+{
+    let Normalized::Unit(d) = direction_of(v) else {
+        return Action::Tell(Answer::Refused(7));
+    };
+    Action::Put { kind: 2, v: d }
+}
+
+// The directions of two vectors, or refusal 7 where either has none.
+pub(crate) fn directions(p: Pair) -> Action
+    ensures { λ r. ⌜ effectBy r ≡ Outcomes.pairDone p ⌝ }
+{
+    let Normalized::Unit(d) = direction_of(p.first) else {
+        return Action::Tell(Answer::Refused(7));
+    };
+    let Normalized::Unit(e) = direction_of(p.second) else {
+        return Action::Tell(Answer::Refused(7));
+    };
+    Action::PutTwo { v: d, w: e }
+}
+
+// `refract`'s k: what is below the root.
+fn refract_k(a: Vec3, normal: Vec3, eta: f32) -> f32
+    ensures { λ r. ⌜ r ≡ Optics.refractK a normal eta ⌝ }
+{
+    let n_dot_i = normal.dot(a);
+    1.0 - eta * eta * (1.0 - n_dot_i * n_dot_i)
+}
+
+// The direction of the refraction, or refusal 8 where all is reflected, then 7.
+pub(crate) fn refracted(a: Vec3, normal: Vec3, eta: f32) -> Action
+    ensures { λ r. ⌜ effectBy r ≡ Outcomes.refractDone a normal eta ⌝ }
+{
+    if refract_k(a, normal, eta) < 0.0 {
+        Action::Tell(Answer::Refused(8))
+    } else {
+        direction(a.refract(normal, eta))
+    }
+}
