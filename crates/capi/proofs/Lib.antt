@@ -1,1 +1,2 @@
+-- The laws and proofs of crate capi, file by file.
 mod RunLaws

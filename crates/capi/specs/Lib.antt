@@ -1,1 +1,2 @@
+-- The definitions of crate capi, file by file.
 pub mod Lists

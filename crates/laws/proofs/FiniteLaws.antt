@@ -1,8 +1,14 @@
--- A finite sum or difference has finite terms, and a finite square a finite root. Assumes nothing.
-use mathlib.Core.Bool.{Bool, true, false}
+-- A finite float is no NaN; a finite sum or difference has finite terms, and a finite square a finite root. Assumes nothing.
+use mathlib.Core.Bool.{Bool, true, false, not}
 use lib.Dec.{T}
-use lib.Ieee.{Float, nan, inf, fin, Format, add, sub, neg, mul}
+use lib.Ieee.{Float, nan, inf, fin, Format, add, sub, neg, mul, isNan}
 use lib.Ieee.Scale.{finite}
+
+pub finite-number : (x : Float) → T (finite x) → T (not (isNan x))
+unfolding isNan
+finite-number nan t = t
+finite-number (inf s) t = tt
+finite-number (fin s m e) t = tt
 
 module _ (f : Format) where
   infinite-sum : (a b : Bool) → T (finite (add f (inf a) (inf b))) → ⊥

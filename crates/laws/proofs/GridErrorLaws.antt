@@ -30,19 +30,16 @@ low-is binary32 = refl
 low-is binary64 = refl
 
 -- ---- what is dropped
+fewer : (x y p : ℕ) → x ≤ y → x - p ≤ y - p
+fewer x y p h = omega arith
+
 -- a fraction below 2 ^ j drops at most j - p digits
 drop-le : (p n c j : ℕ) → 0 < c → n < 2 ^ j * c → drop p n c ≤ j - p
 drop-le p n c j C h = fewer (size (n / c)) j p (size-le (n / c) j (div-lt-iff-lt-mul C .1 h))
-  where
-    fewer : (x y p : ℕ) → x ≤ y → x - p ≤ y - p
-    fewer x y p h = omega arith
 
 -- one of 2 ^ j at least drops j + 1 - p at least
 drop-ge : (p n c j : ℕ) → 0 < c → 2 ^ j * c ≤ n → suc j - p ≤ drop p n c
 drop-ge p n c j C h = fewer (suc j) (size (n / c)) p (size-more (n / c) j (le-div-iff-mul-le C .1 h))
-  where
-    fewer : (x y p : ℕ) → x ≤ y → x - p ≤ y - p
-    fewer x y p h = omega arith
 
 -- ---- a whole multiple of the unit is its own nearest
 closest-mul : (q u : ℕ) → 0 < u → closest (q * u) u ≡ q

@@ -1,3 +1,4 @@
+-- The laws and proofs of crate laws, file by file.
 pub mod Ring
 pub mod RingNat
 pub mod Certificates
@@ -29,3 +30,4 @@ pub mod GridErrorLaws
 pub mod ExactProducts
 pub mod RoundedOperations
 pub mod ValueOrderLaws
+pub mod BoolLaws

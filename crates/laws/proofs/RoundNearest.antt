@@ -6,13 +6,15 @@ use Prim.Native.Nat.{ℕ, _+_, _*_, _/_, _%_, _^_, _≤_, _<_}
 use native.Mathlib.Nat.{mul-assoc}
 use native.Mathlib.Omega.{arith}
 use lib.Dec.{T}
-use lib.Ieee.{Float, nan, inf, fin, Format, binary32, binary64, prec, low, hid, top, round, fits, isNan, toBits}
+use lib.Ieee.{Float, Format, binary32, binary64, prec, low, hid, top, round, fits, isNan, toBits}
 use lib.Ieee.Fits.{two, two-le-pos, round-fits}
 use lib.Ieee.Order.{drop, kept}
 use lib.Ieee.Scale.{grid, finite}
 use Rattle.laws.specs.Within.{distance}
 use Rattle.laws.specs.Exact.{negative, sizeIn}
 use Rattle.laws.specs.RoundsTo.{gap, off, RoundsTo}
+use Rattle.laws.proofs.BoolLaws.{beq-same}
+use Rattle.laws.proofs.FiniteLaws.{finite-number}
 use Rattle.laws.proofs.KeptLaws.{kept-le, kept-few}
 use Rattle.laws.proofs.OverflowLaws.{round-finite, round-infinite, round-either}
 use Rattle.laws.proofs.RoundingError.{finite-round}
@@ -40,18 +42,6 @@ sign-even binary64 true = refl
 sign-even binary64 false = refl
 
 -- ---- signs
-finite-number : (x : Float) → T (finite x) → T (not (isNan x))
-unfolding isNan
-finite-number nan t = t
-finite-number (inf s) t = tt
-finite-number (fin s m e) t = tt
-
-same-sign : (s t : Bool) → T (Bool·beq s t) → s ≡ t
-same-sign true true h = refl
-same-sign true false h = absurd h
-same-sign false true h = absurd h
-same-sign false false h = refl
-
 gap-same : (s : Bool) (x y : ℕ) → gap s x s y ≡ distance x y
 gap-same true x y = refl
 gap-same false x y = refl
@@ -83,7 +73,7 @@ module _ (f : Format) (s : Bool) (a c : ℕ) (C : 0 < c) where
   same : T (finite r) → (y : Float) → T (fits f y) → T (finite y) → T (Bool·beq (negative y) s) → grid f a c ≡ sizeIn f y → r ≡ y
   unfolding r
   same t y h u b g =
-      size-unique f r y (round-fits f s a c) h t u (sign-is ∙ sym (same-sign (negative y) s b)) (size-of-value f r s (grid f a c) (finite-round f s a c t) .0 ∙ g)
+      size-unique f r y (round-fits f s a c) h t u (sign-is ∙ sym (beq-same (negative y) s b)) (size-of-value f r s (grid f a c) (finite-round f s a c t) .0 ∙ g)
 
   last-digit : T (finite r) → toBits f r % 2 ≡ q % 2
   unfolding r q n

@@ -1,13 +1,14 @@
 -- Rounding sees of a fraction's low digits only whether they are all zero: the sticky digit. Assumes nothing.
 use mathlib.Core.Path.{_≡_, sym, ap, _∙_}
 use mathlib.Core.Bool.{Bool, true, false, not, cond}
-use Prim.Native.Nat.{ℕ, zero, suc, _+_, _*_, _/_, _%_, _≤_, _<_, compare, Ordering, Ordering·lt, Ordering·eq, Ordering·gt}
+use Prim.Native.Nat.{ℕ, _+_, _*_, _/_, _%_, _≤_, _<_, compare, Ordering, Ordering·lt, Ordering·eq, Ordering·gt}
 use native.Mathlib.Nat.{suc-mul, le-trans, le-of-eq, mul-comm, mul-assoc, mul-le-mul-right, mod-lt, div-div-eq-div-mul}
 use native.Mathlib.Omega.{arith}
 use lib.Dec.{T, eqb, eqb→eq, lit<}
 use lib.Arith.{mod-mul}
 use lib.Ieee.{nearest}
 use lib.Ieee.Nearest.{closest}
+use Rattle.laws.proofs.BoolLaws.{pos-of-not-zero}
 use Rattle.laws.proofs.CompareLaws.{Cmp, cmp, same-compare}
 
 -- x * c + r against h * c, with 0 < r < c where t is false: as x * 2 + 1 or x * 2 against h * 2
@@ -91,12 +92,8 @@ module _ (v c h : ℕ) (C : 0 < c) (H : 0 < h) where
   tests : compare (v % (2 * h * c) * 2) (2 * h * c) ≡ compare ((2 * w + rest v c) % (2 * h * 2) * 2) (2 * h * 2)
   tests =
       ap (λ (z : ℕ). compare (z * 2) (2 * h * c)) left
-      ∙ orders x h c (v % c) (mod-lt v C) (compare x h) (cmp x h) (eqb (v % c) 0) (eqb→eq (v % c) 0) (above (v % c))
+      ∙ orders x h c (v % c) (mod-lt v C) (compare x h) (cmp x h) (eqb (v % c) 0) (eqb→eq (v % c) 0) (pos-of-not-zero (v % c))
       ∙ ap (λ (z : ℕ). compare (z * 2) (2 * h * 2)) (sym right)
-    where
-      above : (n : ℕ) → T (not (eqb n 0)) → 0 < n
-      above zero t = absurd t
-      above (suc n) t = omega arith
 
   -- v / c rounded to a multiple of 2 * h, by its whole part and whether there is a rest
   pub closest-sticky : closest v (2 * h * c) ≡ closest (2 * (v / c) + rest v c) (2 * h * 2)

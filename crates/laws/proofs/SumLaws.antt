@@ -8,6 +8,7 @@ use lib.Dec.{T, ltb, ltb→lt, nltb→le}
 use lib.IntN.{ℤ, pos, _+ℤ_, +ℤ-comm}
 use lib.Ieee.{Float, Format, round, sum}
 use Rattle.laws.specs.Exact.{signed}
+use Rattle.laws.proofs.BoolLaws.{and-true, and-false}
 use Rattle.laws.proofs.SignedLaws.{signed-add, signed-sub, signed-unique}
 
 -- the rounded value of a sign and a size that make the number z; for zero of the sign o
@@ -46,14 +47,6 @@ module _ (f : Format) (c : ℕ) where
       twice : (s : Bool) → not (not s) ≡ s
       twice true = refl
       twice false = refl
-
-      and-true : (s : Bool) → s && true ≡ s
-      and-true true = refl
-      and-true false = refl
-
-      and-false : (s : Bool) → s && false ≡ false
-      and-false true = refl
-      and-false false = refl
 
       level : (a b : ℕ) → b ≤ a → a ≤ b → a - b ≡ 0
       level a b h k = omega arith

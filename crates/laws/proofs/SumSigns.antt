@@ -10,18 +10,11 @@ use lib.Arith.{le→nltb}
 use lib.Ieee.{Format, unlike, round, sum}
 use lib.Ieee.Bits.{is-true, is-false}
 use Rattle.laws.specs.Within.{distance}
+use Rattle.laws.proofs.BoolLaws.{and-true, and-false}
 use Rattle.laws.proofs.CompareLaws.{Cmp, cmp}
 
 pub sub-mul : (a b c : ℕ) → (a - b) * c ≡ a * c - b * c
 sub-mul a b c = mul-comm (a - b) c ∙ mul-sub c a b ∙ ap₂ _-_ (mul-comm c a) (mul-comm c b)
-
-and-true : (s : Bool) → s && true ≡ s
-and-true true = refl
-and-true false = refl
-
-and-false : (s : Bool) → s && false ≡ false
-and-false true = refl
-and-false false = refl
 
 pub unlike-comm : (s t : Bool) → unlike s t ≡ unlike t s
 unlike-comm true true = refl

@@ -1,3 +1,4 @@
+-- The definitions of crate laws, file by file.
 pub mod Within
 pub mod Exact
 pub mod RoundsTo

@@ -1,1 +1,2 @@
+-- The definitions of crate probe, file by file.
 pub mod Bounds

@@ -10,6 +10,7 @@ use lib.Arith.{lt→nleb}
 use lib.Ieee.Bits.{ofBits-toBits, is-false}
 use lib.Ieee.Scale.{finite}
 use lib.Ieee.Fits.{core, round-is}
+use Rattle.laws.proofs.FiniteLaws.{finite-number}
 use Rattle.scalar.specs.Parts.{Split}
 
 -- ---- a float that equals itself is no NaN
@@ -106,14 +107,9 @@ parts-of x h f = go (eqb e 0) (eqb e 255) (eqb→eq e 0) (differ e 0) (eqb→eq 
         both true p q = q
         both false p q = p
 
-    number : (x : Float) → T (finite x) → T (not (isNan x))
-    number nan f = absurd f
-    number (inf s) f = absurd f
-    number (fin s m e) f = unfold isNan in tt
-
     go : (z i : Bool) → (T z → e ≡ 0) → (T (not z) → e ≡ 0 → ⊥) → (T i → e ≡ 255) → (T (not i) → e ≡ 255 → ⊥) → PartsOf x
     go true i p p' q q' = record { s = s; q = b % 8388608; k = 0; is = at-0 x s e (b % 8388608) (fields x h) (p tt); split = split-0 b }
-    go false true p p' q q' = absurd (subst (λ (y : Float). T (finite y)) (at-255 x s e (b % 8388608) (fields x h) (q tt) (number x f)) f)
+    go false true p p' q q' = absurd (subst (λ (y : Float). T (finite y)) (at-255 x s e (b % 8388608) (fields x h) (q tt) (finite-number x f)) f)
     go false false p p' q q' = record { s = s; q = b % 8388608 + 8388608; k = e - 1; is = at-mid x s e (b % 8388608) (fields x h) (p' tt) (q' tt); split = split-mid b (q' tt) }
 
 -- ---- a positive value of 24 digits, by its bits

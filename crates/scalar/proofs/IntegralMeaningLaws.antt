@@ -1,7 +1,7 @@
 -- The whole results are what specs/IntegralMeaning says. Assumes nothing.
 use mathlib.Core.Path.{_≡_, refl, sym, ap, _∙_, subst}
 use mathlib.Core.Bool.{Bool, true, false, not, cond}
-use Prim.Native.Nat.{ℕ, zero, suc, _+_, _-_, _*_, _/_, _%_, _^_, _≤_, _<_, compare}
+use Prim.Native.Nat.{ℕ, _+_, _-_, _*_, _/_, _%_, _^_, _≤_, _<_, compare}
 use native.Mathlib.Nat.{le-trans, le-of-eq, lt-of-lt-of-le, lt-of-le-of-lt, le-refl, le-add-right, mul-assoc, mul-one, mul-le-mul-left, mul-lt-mul-of-pos-right, div-mul-le-self, lt-div-mul-add, div-lt-iff-lt-mul, div-add-mod', mod-lt, add-mul}
 use native.Mathlib.Numerals.{add-one}
 use native.Mathlib.Omega.{arith}
@@ -14,6 +14,7 @@ use lib.Ieee.Fits.{nearest-le}
 use lib.Ieee.Nearest.{closest}
 use lib.Ieee.Scale.{finite}
 use Rattle.laws.specs.Exact.{negative, sizeIn}
+use Rattle.laws.proofs.BoolLaws.{pos-of-not-zero}
 use Rattle.laws.proofs.ClosestLaws.{closest-best, closest-tie}
 use Rattle.laws.proofs.SizeLaws.{size-of-value, value-of-size}
 use Rattle.scalar.specs.Integral.{integral, cut, lower, even, trunc, floor, roundEven}
@@ -120,12 +121,8 @@ lower-near true a b = go (eqb (a % b) 0)
 
 -- the next multiple of u at or above a
 upward : (a u : ℕ) → 0 < u → (a ≤ lower true a u * u) × (lower true a u * u < a + u)
-upward a u U = go (a / u) (a % u) (eqb (a % u) 0) (eqb→eq (a % u) 0) (positive (a % u)) (div-add-mod' a u) (mod-lt a U)
+upward a u U = go (a / u) (a % u) (eqb (a % u) 0) (eqb→eq (a % u) 0) (pos-of-not-zero (a % u)) (div-add-mod' a u) (mod-lt a U)
   where
-    positive : (r : ℕ) → T (not (eqb r 0)) → 0 < r
-    positive zero t = absurd t
-    positive (suc r) t = omega arith
-
     go : (w r : ℕ) (t : Bool) → (T t → r ≡ 0) → (T (not t) → 0 < r) → w * u + r ≡ a → r < u → (a ≤ (w + cond t 0 1) * u) × ((w + cond t 0 1) * u < a + u)
     go w r true f g e l = let z = f tt in let s = add-mul w 0 u in (omega arith, omega arith)
     go w r false f g e l = let z = g tt in let s = add-mul w 1 u in (omega arith, omega arith)

@@ -8,6 +8,7 @@ use lib.Arith.{digits-div}
 use lib.Dec.{T, eqb, eqb→eq, eqb·suc-zero, lit≤, lit<}
 use lib.Pow.{pow-pos, pow-add, pow-mono}
 use lib.Ieee.Nearest.{div-same, closest, closest-same}
+use Rattle.laws.proofs.BoolLaws.{not-zero, pos-of-not-zero}
 use Rattle.laws.proofs.ClosestLaws.{closest-is}
 use Rattle.laws.proofs.CarryLaws.{closest-carry}
 use Rattle.scalar.specs.Integral.{cut, lower, even}
@@ -39,14 +40,10 @@ rests a b c d B D h =
 
 none-or-some : (x c : ℕ) → 0 < c → eqb (x * c) 0 ≡ eqb x 0
 none-or-some zero c h = ap (λ (n : ℕ). eqb n 0) (zero-mul c)
-none-or-some (suc x) c h = is-some (suc x * c) (mul-pos (positive x) h) ∙ sym (eqb·suc-zero x)
+none-or-some (suc x) c h = not-zero (suc x * c) (mul-pos (positive x) h) ∙ sym (eqb·suc-zero x)
   where
     positive : (x : ℕ) → 0 < suc x
     positive x = omega arith
-
-    is-some : (n : ℕ) → 0 < n → eqb n 0 ≡ false
-    is-some zero l = absurd (omega arith)
-    is-some (suc n) l = eqb·suc-zero n
 
 lower-respects : (s : Bool) (a b c d : ℕ) → 0 < b → 0 < d → a * d ≡ c * b → lower s a b ≡ lower s c d
 lower-respects false a b c d B D h = div-same a b c d B D h
@@ -71,12 +68,8 @@ lower-rule = record { respects = lower-respects; keeps = lower-keeps; settles = 
 ceiling : (q u : ℕ) → 0 < u → (q + (u - 1)) / u ≡ lower true q u
 ceiling q u U =
     subst (λ (n : ℕ). (n + (u - 1)) / u ≡ lower true q u) (div-add-mod' q u)
-    (go (q / u) (q % u) (eqb (q % u) 0) (eqb→eq (q % u) 0) (positive (q % u)) (mod-lt q U))
+    (go (q / u) (q % u) (eqb (q % u) 0) (eqb→eq (q % u) 0) (pos-of-not-zero (q % u)) (mod-lt q U))
   where
-    positive : (r : ℕ) → T (not (eqb r 0)) → 0 < r
-    positive zero t = absurd t
-    positive (suc r) t = omega arith
-
     low : (w r u : ℕ) → r ≡ 0 → w * u + r + (u - 1) ≡ w * u + (u - 1)
     low w r u h = omega arith
 

@@ -1,3 +1,4 @@
+-- The laws and proofs of crate scalar, file by file.
 pub mod BitsLaws
 pub mod PackLaws
 pub mod PartsLaws
@@ -22,3 +23,4 @@ pub mod RoundPackLaws
 pub mod RoundJamLaws
 pub mod AlignLaws
 pub mod FusedLaws
+pub mod FitsLaws

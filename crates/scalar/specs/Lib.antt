@@ -1,3 +1,4 @@
+-- The definitions of crate scalar, file by file.
 pub mod Sign
 pub mod Root
 pub mod RootMeaning

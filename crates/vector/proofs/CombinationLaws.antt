@@ -71,43 +71,32 @@ component d sr r false u true v h ρ l w = omega (arith, rule d sr r (u + v) 0 h
 component d sr r true u false v h ρ l w = omega (arith, rule d sr r 0 (u + v) h ρ l w, grown u v, zero-mul (u + v))
 
 -- ---- the mixed term, q's sign taken out
-plus-part : (sa sb sq : Bool) (p q a b : ℕ) → plus (unlike sa (unlike sq sb)) (2 * (p * a * (q * b))) ≡ 2 * (p * q * cond sq (minus (unlike sa sb) (a * b)) (plus (unlike sa sb) (a * b)))
-plus-part sa sb sq p q a b = go sa sb sq
-  where
-    same : 2 * (p * a * (q * b)) ≡ 2 * (p * q * (a * b))
-    same = ring (p ∷ q ∷ a ∷ b ∷ []) (lit 2 ⊗ (var 0 ⊗ var 2 ⊗ (var 1 ⊗ var 3))) (lit 2 ⊗ (var 0 ⊗ var 1 ⊗ (var 2 ⊗ var 3))) refl
+module _ (p q a b : ℕ) where
+  same : 2 * (p * a * (q * b)) ≡ 2 * (p * q * (a * b))
+  same = ring (p ∷ q ∷ a ∷ b ∷ []) (lit 2 ⊗ (var 0 ⊗ var 2 ⊗ (var 1 ⊗ var 3))) (lit 2 ⊗ (var 0 ⊗ var 1 ⊗ (var 2 ⊗ var 3))) refl
 
-    none : 0 ≡ 2 * (p * q * 0)
-    none = omega (arith, mul-zero (p * q))
+  none : 0 ≡ 2 * (p * q * 0)
+  none = omega (arith, mul-zero (p * q))
 
-    go : (sa sb sq : Bool) → plus (unlike sa (unlike sq sb)) (2 * (p * a * (q * b))) ≡ 2 * (p * q * cond sq (minus (unlike sa sb) (a * b)) (plus (unlike sa sb) (a * b)))
-    go true true true = none
-    go true true false = same
-    go true false true = same
-    go true false false = none
-    go false true true = same
-    go false true false = none
-    go false false true = none
-    go false false false = same
+  plus-part : (sa sb sq : Bool) → plus (unlike sa (unlike sq sb)) (2 * (p * a * (q * b))) ≡ 2 * (p * q * cond sq (minus (unlike sa sb) (a * b)) (plus (unlike sa sb) (a * b)))
+  plus-part true true true = none
+  plus-part true true false = same
+  plus-part true false true = same
+  plus-part true false false = none
+  plus-part false true true = same
+  plus-part false true false = none
+  plus-part false false true = none
+  plus-part false false false = same
 
-minus-part : (sa sb sq : Bool) (p q a b : ℕ) → minus (unlike sa (unlike sq sb)) (2 * (p * a * (q * b))) ≡ 2 * (p * q * cond sq (plus (unlike sa sb) (a * b)) (minus (unlike sa sb) (a * b)))
-minus-part sa sb sq p q a b = go sa sb sq
-  where
-    same : 2 * (p * a * (q * b)) ≡ 2 * (p * q * (a * b))
-    same = ring (p ∷ q ∷ a ∷ b ∷ []) (lit 2 ⊗ (var 0 ⊗ var 2 ⊗ (var 1 ⊗ var 3))) (lit 2 ⊗ (var 0 ⊗ var 1 ⊗ (var 2 ⊗ var 3))) refl
-
-    none : 0 ≡ 2 * (p * q * 0)
-    none = omega (arith, mul-zero (p * q))
-
-    go : (sa sb sq : Bool) → minus (unlike sa (unlike sq sb)) (2 * (p * a * (q * b))) ≡ 2 * (p * q * cond sq (plus (unlike sa sb) (a * b)) (minus (unlike sa sb) (a * b)))
-    go true true true = same
-    go true true false = none
-    go true false true = none
-    go true false false = same
-    go false true true = none
-    go false true false = same
-    go false false true = same
-    go false false false = none
+  minus-part : (sa sb sq : Bool) → minus (unlike sa (unlike sq sb)) (2 * (p * a * (q * b))) ≡ 2 * (p * q * cond sq (plus (unlike sa sb) (a * b)) (minus (unlike sa sb) (a * b)))
+  minus-part true true true = same
+  minus-part true true false = none
+  minus-part true false true = none
+  minus-part true false false = same
+  minus-part false true true = none
+  minus-part false true false = same
+  minus-part false false true = same
+  minus-part false false false = none
 
 -- the exact dot product of a and q's sign times b: its positive and its negative terms
 abbrev pub toward : Bool → Exact → Exact → ℕ
@@ -161,12 +150,12 @@ module _ (d h ρ p : ℕ) (sq : Bool) (q : ℕ) (a b r : Exact)
     where
       gathered : plus (unlike (a .sx) (unlike sq (b .sx))) (2 * (p * a .ax * (q * b .ax))) + plus (unlike (a .sy) (unlike sq (b .sy))) (2 * (p * a .ay * (q * b .ay))) + plus (unlike (a .sz) (unlike sq (b .sz))) (2 * (p * a .az * (q * b .az))) ≡ 2 * (p * q * toward sq a b)
       gathered =
-          ap₂ _+_ (ap₂ _+_ (plus-part (a .sx) (b .sx) sq p q (a .ax) (b .ax)) (plus-part (a .sy) (b .sy) sq p q (a .ay) (b .ay))) (plus-part (a .sz) (b .sz) sq p q (a .az) (b .az))
+          ap₂ _+_ (ap₂ _+_ (plus-part p q (a .ax) (b .ax) (a .sx) (b .sx) sq) (plus-part p q (a .ay) (b .ay) (a .sy) (b .sy) sq)) (plus-part p q (a .az) (b .az) (a .sz) (b .sz) sq)
           ∙ spread (p * q) (cond sq (minus (unlike (a .sx) (b .sx)) (a .ax * b .ax)) (plus (unlike (a .sx) (b .sx)) (a .ax * b .ax))) (cond sq (minus (unlike (a .sy) (b .sy)) (a .ay * b .ay)) (plus (unlike (a .sy) (b .sy)) (a .ay * b .ay))) (cond sq (minus (unlike (a .sz) (b .sz)) (a .az * b .az)) (plus (unlike (a .sz) (b .sz)) (a .az * b .az)))
           ∙ ap (λ (c : ℕ). 2 * (p * q * c)) (mixed sq)
 
       gathered' : minus (unlike (a .sx) (unlike sq (b .sx))) (2 * (p * a .ax * (q * b .ax))) + minus (unlike (a .sy) (unlike sq (b .sy))) (2 * (p * a .ay * (q * b .ay))) + minus (unlike (a .sz) (unlike sq (b .sz))) (2 * (p * a .az * (q * b .az))) ≡ 2 * (p * q * against sq a b)
       gathered' =
-          ap₂ _+_ (ap₂ _+_ (minus-part (a .sx) (b .sx) sq p q (a .ax) (b .ax)) (minus-part (a .sy) (b .sy) sq p q (a .ay) (b .ay))) (minus-part (a .sz) (b .sz) sq p q (a .az) (b .az))
+          ap₂ _+_ (ap₂ _+_ (minus-part p q (a .ax) (b .ax) (a .sx) (b .sx) sq) (minus-part p q (a .ay) (b .ay) (a .sy) (b .sy) sq)) (minus-part p q (a .az) (b .az) (a .sz) (b .sz) sq)
           ∙ spread (p * q) (cond sq (plus (unlike (a .sx) (b .sx)) (a .ax * b .ax)) (minus (unlike (a .sx) (b .sx)) (a .ax * b .ax))) (cond sq (plus (unlike (a .sy) (b .sy)) (a .ay * b .ay)) (minus (unlike (a .sy) (b .sy)) (a .ay * b .ay))) (cond sq (plus (unlike (a .sz) (b .sz)) (a .az * b .az)) (minus (unlike (a .sz) (b .sz)) (a .az * b .az)))
           ∙ ap (λ (c : ℕ). 2 * (p * q * c)) (mixed' sq)

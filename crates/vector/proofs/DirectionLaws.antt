@@ -22,8 +22,8 @@ use Rattle.scalar.proofs.SignLaws.{abs-value}
 use Rattle.vector.specs.declared.vec3.Vec3.{Vec3}
 use Rattle.vector.specs.Vectors.{one}
 use Rattle.vector.specs.Products.{lengthSquared}
-use Rattle.vector.specs.ExactVectors.{F32Vec, UnitWithin, Direction, exactSquare}
-use Rattle.vector.specs.NumericLaws.{ComputedNear}
+use Rattle.vector.specs.ExactVectors.{F32Vec, UnitWithin, exactSquare}
+use Rattle.vector.specs.NumericLaws.{ComputedNear, small, DirectionIfTested}
 use Rattle.vector.proofs.SquaredLengthBounds.{Q, RoundsWhole, any-low, any-high}
 use Rattle.vector.proofs.SquaredLengthErrors.{squared-value, components-finite, length-parts}
 use Rattle.vector.proofs.SignedVectors.{D, E, one-is}
@@ -65,9 +65,6 @@ wider : (c d : ℕ) → c * 2 ^ 274 ≤ d * 2 ^ 274 → (a : Vec3) → UnitWithi
 wider c d h a u = record { values = u .values; numbers = u .numbers; near = looser (exactSquare a) (2 ^ 298) (c * 2 ^ 274) (d * 2 ^ 274) h (u .near) }
 
 -- ---- by a test in f32: 2^-19 is 32 times 2^-24
-abbrev small : Float
-small = ofBits binary32 0x36000000
-
 small-value : Value binary32 small false (32 * E)
 unfolding ofBits
 small-value = (refl, refl)
@@ -88,7 +85,7 @@ at-most x y m n h k p t = elim (eq-zero-or-pos m) [
 before-rounding : (n f e : ℕ) → RoundsWhole f n → f ≤ 32 * e → 64 ≤ e → n ≤ 33 * e
 before-rounding n f e h g l = omega arith
 
-pub direction-if-tested : (a : Vec3) → F32Vec a → T (le (abs (sub binary32 (lengthSquared a) one)) (ofBits binary32 0x36000000)) → Direction a
+pub direction-if-tested : DirectionIfTested
 direction-if-tested a v t = wider 38 64 (lit≤ tt) a (exact-near 33 (lit≤ tt) a v (number, near))
   where
     L : ℕ

@@ -13,7 +13,7 @@ use Rattle.laws.proofs.Ring.{var, lit, _⊕_, _⊗_}
 use Rattle.laws.proofs.RingNat.{ring}
 use Rattle.laws.specs.Within.{Within}
 use Rattle.laws.proofs.RoundedOperations.{plus, minus, Sized, Signed, mul-near, add-near}
-use Rattle.vector.proofs.PairNumbers.{twice-product}
+use Rattle.vector.proofs.ComponentSizes.{twice-product}
 use Rattle.vector.proofs.DotSums.{two-sum, three-sum, sum-size, dot-sum}
 use Rattle.vector.proofs.SignedVectors.{D, E, Exact, Reads, above, under, Norm, sides, size-of-sum}
 use Rattle.vector.specs.declared.vec3.Vec3.{Vec3}

@@ -1,3 +1,4 @@
+-- The laws and proofs of crate vector, file by file.
 pub mod MaskLaws
 pub mod IndexedLaws
 pub mod OrderLaws
@@ -16,6 +17,8 @@ pub mod UnitLaws
 pub mod NormalizedLaws
 pub mod DirectionLaws
 pub mod OrthogonalLaws
+pub mod VectorFits
+pub mod ComponentSizes
 pub mod SignedVectors
 pub mod ExactDots
 pub mod CombinationLaws

@@ -1,25 +1,12 @@
 -- From the roundings of the pair's formulas to what holds of the pair, in whole numbers. 1 is d, a rounding's error is e. Assumes nothing.
 use mathlib.Core.Path.{subst}
-use mathlib.Core.List.{[], _∷_}
 use Prim.Native.Nat.{ℕ, _+_, _*_, _≤_, _<_}
 use native.Mathlib.Nat.{le-trans, le-of-eq, mul-comm, add-comm, mul-pos}
 use native.Mathlib.Omega.{arith}
-use Rattle.laws.proofs.Ring.{var, lit, _⊕_, _⊗_}
-use Rattle.laws.proofs.Certificates.{ring≤, cert, by, done, square}
 use Rattle.laws.specs.Within.{Within}
-use Rattle.laws.proofs.WholeRootLaws.{square-le}
+use Rattle.vector.proofs.ComponentSizes.{size-le, twice-product, parts-of}
 use Rattle.vector.proofs.PairProducts.{turned, along, doubled, first, second}
 use Rattle.vector.proofs.PairDotCertificates.{normal-first, first-second, first-length}
-
--- ---- sizes
--- a square of at most 1 + 64 e has a root of at most 1 + 32 e
-pub size-le : (d e x : ℕ) → x * x ≤ d * d + 64 * (e * d) → x ≤ d + 32 * e
-size-le d e x h =
-    square-le x (d + 32 * e)
-    (le-trans h (ring≤ (d ∷ e ∷ []) (var 0 ⊗ var 0 ⊕ lit 64 ⊗ (var 1 ⊗ var 0)) ((var 0 ⊕ lit 32 ⊗ var 1) ⊗ (var 0 ⊕ lit 32 ⊗ var 1)) tt))
-
-pub twice-product : (x y : ℕ) → 2 * (x * y) ≤ x * x + y * y
-twice-product x y = cert (x ∷ y ∷ []) (lit 2 ⊗ (var 0 ⊗ var 1)) (var 0 ⊗ var 0 ⊕ var 1 ⊗ var 1) (by (lit 1) (var 0 ⊗ var 1 ⊕ var 1 ⊗ var 0) (var 0 ⊗ var 0 ⊕ var 1 ⊗ var 1) (square x y) done) tt
 
 -- ---- what the roundings say, of the whole pair
 pub record Roundings (d e x y z t α p γ q ε o b hp hm kp km : ℕ) : Type 0 where
@@ -58,15 +45,12 @@ pub record Facts (d e x y z b hp hm kp km : ℕ) : Type 0 where
   pub y-le : y ≤ d + 32 * e
   pub z-le : z ≤ d + 32 * e
 
-part : (a b c s : ℕ) → a + b + c ≤ s → (a ≤ s) × ((b ≤ s) × ((c ≤ s) × (a + b ≤ s)))
-part a b c s h = (omega arith, (omega arith, (omega arith, omega arith)))
-
 add-pos : (d z : ℕ) → 0 < d → 0 < d + z
 add-pos d z h = omega arith
 
 pub facts : {d e x y z t α p γ q ε o b hp hm kp km : ℕ} → Roundings d e x y z t α p γ q ε o b hp hm kp km → Facts d e x y z b hp hm kp km
 facts {d} {e} {x} {y} {z} {t} {α} {p} {γ} {q} {ε} {o} {b} {hp} {hm} {kp} {km} r =
-    let sizes = part (x * x) (y * y) (z * z) (d * d + 64 * (e * d)) (r .long .0) in
+    let sizes = parts-of (x * x) (y * y) (z * z) (d * d + 64 * (e * d)) (r .long .0) in
     let X : x ≤ d + 32 * e = size-le d e x (sizes .0) in
     let Y : y ≤ d + 32 * e = size-le d e y (sizes .1 .0) in
     let Z : z ≤ d + 32 * e = size-le d e z (sizes .1 .1 .0) in

@@ -14,7 +14,8 @@ use Rattle.laws.proofs.ValueLaws.{Value}
 use Rattle.laws.proofs.OperationLaws.{neg-value}
 use Rattle.laws.proofs.RoundedOperations.{plus, minus, Sized, Signed, Summed, mul-near, div-near, add-near, add-like}
 use Rattle.laws.proofs.ExactProducts.{one-times}
-use Rattle.vector.proofs.PairNumbers.{Roundings, Facts, facts, size-le, twice-product}
+use Rattle.vector.proofs.ComponentSizes.{size-le, twice-product, parts-of}
+use Rattle.vector.proofs.PairNumbers.{Roundings, Facts, facts}
 use Rattle.vector.proofs.PairSigns.{sign-h, sign-k, sign-b, sign-b1, sign-x1, sign-twice}
 use Rattle.vector.proofs.SignedVectors.{D, E, one-is, both-parts, one-part}
 use Rattle.scalar.specs.Sign.{signum, copysign, abs}
@@ -74,9 +75,6 @@ bound-xy a s q r h k l = omega arith
 bound-xx : (a q r : ℕ) → a ≤ q + 64 * r → 64 * r ≤ q → a ≤ q * 2
 bound-xx a q r h k = omega arith
 
-parts : (a b c s : ℕ) → a + b + c ≤ s → (a ≤ s) × ((b ≤ s) × ((c ≤ s) × (a + b ≤ s)))
-parts a b c s h = (omega arith, (omega arith, (omega arith, omega arith)))
-
 from-one : (d z : ℕ) → d * 1 ≤ d + z
 from-one d z = omega arith
 
@@ -96,7 +94,7 @@ h-near false h γ d e w = omega arith
 module _ (v : Vec3) (sx sy sz : Bool) (X Y Z : ℕ) (fx : T (fits binary32 (v .x))) (hx : Value binary32 (v .x) sx X) (hy : Value binary32 (v .y) sy Y) (hz : Value binary32 (v .z) sz Z)
     (long : Within (X * X + Y * Y + Z * Z) (D * D) (64 * (E * D))) where
   sizes : (X * X ≤ D * D + 64 * (E * D)) × ((Y * Y ≤ D * D + 64 * (E * D)) × ((Z * Z ≤ D * D + 64 * (E * D)) × (X * X + Y * Y ≤ D * D + 64 * (E * D))))
-  sizes = parts (X * X) (Y * Y) (Z * Z) (D * D + 64 * (E * D)) (long .0)
+  sizes = parts-of (X * X) (Y * Y) (Z * Z) (D * D + 64 * (E * D)) (long .0)
 
   sum-is : Summed binary32 (add binary32 (signum (v .z)) (v .z)) sz (D + Z) (E * 2) (D * 4)
   sum-is = add-like binary32 2 (lit≤ tt) (signum (v .z)) (v .z) sz D Z (signum-is (v .z) sz Z hz) hz (bound-t D E Z (lit≤ tt) (size-le D E Z (sizes .1 .1 .0)))

@@ -2,9 +2,9 @@
 use mathlib.Core.Path.{_≡_, refl, sym, ap, _∙_, subst}
 use mathlib.Core.Bool.{Bool, true, false, not, true≢false}
 use Prim.Native.Nat.{ℕ, zero, suc, _*_, _^_, _≤_, _<_}
-use native.Mathlib.Nat.{le-trans, le-of-eq, le-of-lt, lt-of-lt-of-le, lt-irrefl, mul-le-mul-right, le-of-mul-le-mul-right, mul-right-comm, mul-assoc, mul-comm, mul-pos}
+use native.Mathlib.Nat.{le-trans, le-of-eq, le-of-lt, lt-of-lt-of-le, mul-le-mul-right, le-of-mul-le-mul-right, mul-right-comm, mul-assoc, mul-comm, mul-pos}
 use native.Mathlib.Omega.{arith}
-use lib.Dec.{T, eqb, eqb→eq, ltb, ltb→lt, lt→ltb, lit≤, lit<}
+use lib.Dec.{T, ltb, ltb→lt, lt→ltb, lit≤, lit<}
 use lib.Pow.{pow-pos}
 use lib.Ieee.{Float, nan, inf, fin, binary32, up, down, fits, ofBits, round, div, lt}
 use lib.Ieee.Bits.{is-true, ofBits-fits}
@@ -13,6 +13,7 @@ use lib.Ieee.Order.{round-mono}
 use lib.Ieee.Positive.{positive, positive-finite, positive-of-value, value-pos, between}
 use lib.Ieee.Scale.{finite}
 use Rattle.laws.specs.Exact.{negative, sizeIn}
+use Rattle.laws.proofs.BoolLaws.{not-zero}
 use Rattle.laws.proofs.ValueLaws.{Value}
 use Rattle.laws.proofs.SizeLaws.{value-of-size, size-below}
 use Rattle.scalar.specs.Root.{root}
@@ -45,13 +46,6 @@ rounded-positive a c p h k =
     between (round binary32 false 1 (2 ^ 64)) (round binary32 false a c) (round binary32 false (2 ^ 75) 1) lowest highest
     (round-mono binary32 1 (2 ^ 64) a c (pow-pos 64) p h)
     (round-mono binary32 a c (2 ^ 75) 1 p (lit< tt) k)
-
-pub not-zero : (n : ℕ) → 0 < n → eqb n 0 ≡ false
-not-zero n h = go (eqb n 0) (eqb→eq n 0)
-  where
-    go : (b : Bool) → (T b → n ≡ 0) → b ≡ false
-    go true f = absurd (lt-irrefl 0 (subst (λ (k : ℕ). 0 < k) (f tt) h))
-    go false f = refl
 
 recip-positive : (y : Float) (N : ℕ) → Value binary32 y false N → 2 ^ 74 ≤ N → N ≤ 2 ^ 213 → T (positive (div binary32 one y))
 unfolding div ofBits

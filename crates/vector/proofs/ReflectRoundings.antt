@@ -13,8 +13,7 @@ use Rattle.laws.specs.Within.{Within}
 use Rattle.laws.proofs.ValueLaws.{Value}
 use Rattle.laws.proofs.RoundedOperations.{plus, minus, Sized, Signed, mul-near, sub-near}
 use Rattle.laws.proofs.ExactProducts.{power-times}
-use Rattle.vector.proofs.PairNumbers.{size-le}
-use Rattle.vector.proofs.SignedVectors.{D, E, Exact, Reads, norm, above, under, Norm, sides, plain-sign, parts-of}
+use Rattle.vector.proofs.SignedVectors.{D, E, Exact, Reads, norm, above, under, Norm, sides, plain-sign, sizes}
 use Rattle.vector.specs.declared.vec3.Vec3.{Vec3}
 use Rattle.vector.specs.Operators.{sub, numberMul}
 use Rattle.vector.specs.Products.{dot}
@@ -104,20 +103,14 @@ module _ (v w : Vec3) (a b : Exact) (ra : Reads v a) (rb : Reads w b) (na : Norm
   q-is = subst (λ (s : Bool). Value binary32 (mul binary32 two (dot v w)) s (d .size * 2)) (plain-sign (d .sign))
       (power-times binary32 two (dot v w) false (d .sign) (d .size) (dot-fits v w) (d .has) 1 two-is (lt-of-le-of-lt (mul-le-mul-right 2 (d .most)) (lit< tt)))
 
-  a-sizes : (a .ax * a .ax ≤ D * D + 64 * (E * D)) × ((a .ay * a .ay ≤ D * D + 64 * (E * D)) × (a .az * a .az ≤ D * D + 64 * (E * D)))
-  a-sizes = parts-of (a .ax * a .ax) (a .ay * a .ay) (a .az * a .az) (D * D + 64 * (E * D)) (na .0)
-
-  b-sizes : (b .ax * b .ax ≤ D * D + 64 * (E * D)) × ((b .ay * b .ay ≤ D * D + 64 * (E * D)) × (b .az * b .az ≤ D * D + 64 * (E * D)))
-  b-sizes = parts-of (b .ax * b .ax) (b .ay * b .ay) (b .az * b .az) (D * D + 64 * (E * D)) (nb .0)
-
   at-x : Mirrored q (d .sign) (d .size) (v .x) (w .x) (a .sx) (b .sx) (a .ax) (b .ax)
-  at-x = mirrored-of q (d .sign) (d .size) q-is (d .most) (v .x) (w .x) (a .sx) (b .sx) (a .ax) (b .ax) (ra .at-x) (rb .at-x) (size-le D E (a .ax) (a-sizes .0)) (size-le D E (b .ax) (b-sizes .0))
+  at-x = mirrored-of q (d .sign) (d .size) q-is (d .most) (v .x) (w .x) (a .sx) (b .sx) (a .ax) (b .ax) (ra .at-x) (rb .at-x) (sizes a (na .0) .0) (sizes b (nb .0) .0)
 
   at-y : Mirrored q (d .sign) (d .size) (v .y) (w .y) (a .sy) (b .sy) (a .ay) (b .ay)
-  at-y = mirrored-of q (d .sign) (d .size) q-is (d .most) (v .y) (w .y) (a .sy) (b .sy) (a .ay) (b .ay) (ra .at-y) (rb .at-y) (size-le D E (a .ay) (a-sizes .1 .0)) (size-le D E (b .ay) (b-sizes .1 .0))
+  at-y = mirrored-of q (d .sign) (d .size) q-is (d .most) (v .y) (w .y) (a .sy) (b .sy) (a .ay) (b .ay) (ra .at-y) (rb .at-y) (sizes a (na .0) .1 .0) (sizes b (nb .0) .1 .0)
 
   at-z : Mirrored q (d .sign) (d .size) (v .z) (w .z) (a .sz) (b .sz) (a .az) (b .az)
-  at-z = mirrored-of q (d .sign) (d .size) q-is (d .most) (v .z) (w .z) (a .sz) (b .sz) (a .az) (b .az) (ra .at-z) (rb .at-z) (size-le D E (a .az) (a-sizes .1 .1)) (size-le D E (b .az) (b-sizes .1 .1))
+  at-z = mirrored-of q (d .sign) (d .size) q-is (d .most) (v .z) (w .z) (a .sz) (b .sz) (a .az) (b .az) (ra .at-z) (rb .at-z) (sizes a (na .0) .1 .1) (sizes b (nb .0) .1 .1)
 
   pub reflected : Exact
   reflected = record { sx = at-x .sign; ax = at-x .size; sy = at-y .sign; ay = at-y .size; sz = at-z .sign; az = at-z .size }

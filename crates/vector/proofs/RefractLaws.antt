@@ -20,7 +20,7 @@ use Rattle.vector.specs.ExactVectors.{F32Vec, Direction}
 use Rattle.vector.specs.NumericLaws.{LawR, Refused7Never}
 use Rattle.vector.proofs.SignedVectors.{D, exactOf, reads-of}
 use Rattle.vector.proofs.RefractRoundings.{gOf, bentOf, k-number, refracted, refracted-reads, refracted-norm}
-use Rattle.vector.proofs.ReflectLaws.{sub-values}
+use Rattle.vector.proofs.VectorFits.{difference-vector}
 use Rattle.vector.proofs.AcceptedLaws.{never-refused}
 
 -- ---- 0, 1/4 and 4
@@ -49,7 +49,7 @@ unfolding refract refractK
 bent-is a b u t = sym (ap (λ (c : Bool). cond c (bentOf a b u) ZERO) (is-true (le zer (refractK a b u)) t))
 
 bent-values : (a b : Vec3) (u : Float) → F32Vec (bentOf a b u)
-bent-values a b u = sub-values (numberMul u a) (numberMul (gOf u (dot b a)) b)
+bent-values a b u = difference-vector (numberMul u a) (numberMul (gOf u (dot b a)) b)
 
 module _ (a b : Vec3) (u : Float) (da : Direction a) (db : Direction b) (fit : T (fits binary32 u)) (low : T (le (ofBits binary32 0x3e800000) u)) (high : T (le u (ofBits binary32 0x40800000)))
     (free : T (le zer (refractK a b u))) where

@@ -14,8 +14,7 @@ use Rattle.laws.proofs.WholeRootLaws.{square-le}
 use Rattle.laws.proofs.ValueLaws.{Value}
 use Rattle.laws.proofs.SumSigns.{unlike-self}
 use Rattle.laws.proofs.RoundedOperations.{plus, minus, Sized, Signed, mul-near, add-near, sub-near, same-value}
-use Rattle.vector.proofs.PairNumbers.{size-le}
-use Rattle.vector.proofs.SignedVectors.{D, E, Exact, Reads, norm, above, under, Norm, sides, size-of-sum, plain-sign, one-part, both-parts, parts-of, one-is, above-comm, under-comm}
+use Rattle.vector.proofs.SignedVectors.{D, E, Exact, Reads, norm, above, under, Norm, sides, size-of-sum, plain-sign, one-part, both-parts, sizes, one-is, above-comm, under-comm}
 use Rattle.vector.specs.declared.vec3.Vec3.{Vec3}
 use Rattle.vector.specs.Vectors.{one}
 use Rattle.vector.specs.Operators.{sub, numberMul}
@@ -125,20 +124,14 @@ module _ (v w : Vec3) (a b : Exact) (ra : Reads v a) (rb : Reads w b) (na : Norm
     g-is = j-near (g .sign) (d .sign) (q .sign) (g .size) (g0 .size) (q .size) D E H (d .size) (q .none)
         (g .near) (g0 .near)
 
-    a-sizes : (a .ax * a .ax ≤ D * D + 64 * (E * D)) × ((a .ay * a .ay ≤ D * D + 64 * (E * D)) × (a .az * a .az ≤ D * D + 64 * (E * D)))
-    a-sizes = parts-of (a .ax * a .ax) (a .ay * a .ay) (a .az * a .az) (D * D + 64 * (E * D)) (na .0)
-
-    b-sizes : (b .ax * b .ax ≤ D * D + 64 * (E * D)) × ((b .ay * b .ay ≤ D * D + 64 * (E * D)) × (b .az * b .az ≤ D * D + 64 * (E * D)))
-    b-sizes = parts-of (b .ax * b .ax) (b .ay * b .ay) (b .az * b .az) (D * D + 64 * (E * D)) (nb .0)
-
     at-x : Bent η H hη lη (gOf η s) (g .sign) (g .size) (v .x) (w .x) (a .sx) (b .sx) (a .ax) (b .ax)
-    at-x = bent η H hη lη (gOf η s) (g .sign) (g .size) (g .has) g-most (v .x) (w .x) (a .sx) (b .sx) (a .ax) (b .ax) (ra .at-x) (rb .at-x) (size-le D E (a .ax) (a-sizes .0)) (size-le D E (b .ax) (b-sizes .0))
+    at-x = bent η H hη lη (gOf η s) (g .sign) (g .size) (g .has) g-most (v .x) (w .x) (a .sx) (b .sx) (a .ax) (b .ax) (ra .at-x) (rb .at-x) (sizes a (na .0) .0) (sizes b (nb .0) .0)
 
     at-y : Bent η H hη lη (gOf η s) (g .sign) (g .size) (v .y) (w .y) (a .sy) (b .sy) (a .ay) (b .ay)
-    at-y = bent η H hη lη (gOf η s) (g .sign) (g .size) (g .has) g-most (v .y) (w .y) (a .sy) (b .sy) (a .ay) (b .ay) (ra .at-y) (rb .at-y) (size-le D E (a .ay) (a-sizes .1 .0)) (size-le D E (b .ay) (b-sizes .1 .0))
+    at-y = bent η H hη lη (gOf η s) (g .sign) (g .size) (g .has) g-most (v .y) (w .y) (a .sy) (b .sy) (a .ay) (b .ay) (ra .at-y) (rb .at-y) (sizes a (na .0) .1 .0) (sizes b (nb .0) .1 .0)
 
     at-z : Bent η H hη lη (gOf η s) (g .sign) (g .size) (v .z) (w .z) (a .sz) (b .sz) (a .az) (b .az)
-    at-z = bent η H hη lη (gOf η s) (g .sign) (g .size) (g .has) g-most (v .z) (w .z) (a .sz) (b .sz) (a .az) (b .az) (ra .at-z) (rb .at-z) (size-le D E (a .az) (a-sizes .1 .1)) (size-le D E (b .az) (b-sizes .1 .1))
+    at-z = bent η H hη lη (gOf η s) (g .sign) (g .size) (g .has) g-most (v .z) (w .z) (a .sz) (b .sz) (a .az) (b .az) (ra .at-z) (rb .at-z) (sizes a (na .0) .1 .1) (sizes b (nb .0) .1 .1)
 
     pub refracted : Exact
     refracted = record { sx = at-x .sign; ax = at-x .size; sy = at-y .sign; ay = at-y .size; sz = at-z .sign; az = at-z .size }

@@ -13,6 +13,7 @@ use Rattle.laws.proofs.ValueLaws.{Value, value-finite}
 use Rattle.laws.proofs.SumSigns.{unlike-comm}
 use Rattle.laws.proofs.GridErrorLaws.{unit, halfUlp}
 use Rattle.laws.proofs.RoundedOperations.{plus, minus}
+use Rattle.vector.proofs.ComponentSizes.{size-le, parts-of}
 use Rattle.vector.specs.declared.vec3.Vec3.{Vec3}
 use Rattle.vector.specs.Vectors.{one}
 use Rattle.vector.specs.ExactVectors.{F32Vec, FiniteVec}
@@ -87,9 +88,11 @@ pub plain-sign : (s : Bool) → unlike false s ≡ s
 plain-sign true = refl
 plain-sign false = refl
 
--- one of three numbers is at most their sum
-pub parts-of : (a b c s : ℕ) → a + b + c ≤ s → (a ≤ s) × ((b ≤ s) × (c ≤ s))
-parts-of a b c s h = (omega arith, (omega arith, omega arith))
+-- where the squared length is at most 1 and 64 errors, each component is at most 1 and 32 errors
+pub sizes : (v : Exact) → norm v ≤ D * D + 64 * (E * D) → (v .ax ≤ D + 32 * E) × ((v .ay ≤ D + 32 * E) × (v .az ≤ D + 32 * E))
+sizes v h =
+    let squares = parts-of (v .ax * v .ax) (v .ay * v .ay) (v .az * v .az) (D * D + 64 * (E * D)) h in
+    (size-le D E (v .ax) (squares .0), (size-le D E (v .ay) (squares .1 .0), size-le D E (v .az) (squares .1 .1 .0)))
 
 -- ---- 1
 pub one-is : Value binary32 one false D

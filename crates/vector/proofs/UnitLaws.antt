@@ -12,6 +12,7 @@ use lib.Ieee.Positive.{positive, positive-of-value}
 use lib.Ieee.Scale.{finite}
 use Rattle.laws.specs.Exact.{negative, sizeIn}
 use Rattle.laws.specs.Within.{Within}
+use Rattle.laws.proofs.BoolLaws.{not-zero}
 use Rattle.laws.proofs.ValueLaws.{Value, value-finite}
 use Rattle.laws.proofs.SizeLaws.{size-of-value, value-of-size}
 use Rattle.laws.proofs.ValueOrderLaws.{not-lt-sizes}
@@ -30,7 +31,7 @@ use Rattle.vector.proofs.SignedVectors.{D}
 use Rattle.vector.proofs.SquaredLengthLaws.{squared-fits, squared-sign}
 use Rattle.vector.proofs.SquaredLengthBounds.{Q, Rounds, in-x, in-y, in-z, squared-low, squared-high}
 use Rattle.vector.proofs.SquaredLengthErrors.{squared-value, components-finite, length-parts}
-use Rattle.vector.proofs.ReciprocalLaws.{not-zero, size-pos}
+use Rattle.vector.proofs.ReciprocalLaws.{size-pos}
 use Rattle.vector.proofs.ReciprocalErrors.{recip-value, recip-near}
 use Rattle.vector.proofs.NormalizingLaws.{none-exactly}
 use Rattle.vector.proofs.UnitBounds.{product-low, product-high, part-small, length-low, length-high}

@@ -1,3 +1,4 @@
+-- The definitions of crate vector, file by file.
 pub mod Vectors
 pub mod Masks
 pub mod Indexed

@@ -3,13 +3,14 @@ use mathlib.Core.Path.{_≡_}
 use mathlib.Core.Bool.{true}
 use Prim.Native.Nat.{ℕ, _*_, _^_}
 use lib.Dec.{T}
-use lib.Ieee.{Float, binary32, fits, ofBits, le}
+use lib.Ieee.{Float, binary32, fits, ofBits, sub, le}
 use lib.Ieee.Scale.{finite}
 use Rattle.laws.specs.Exact.{sizeIn}
 use Rattle.laws.specs.Within.{Within}
+use Rattle.scalar.specs.Sign.{abs}
 use Rattle.vector.specs.declared.vec3.Vec3.{Vec3}
 use Rattle.vector.specs.declared.vec3.normalizing.Normalized.the-variants.{Unit}
-use Rattle.vector.specs.Vectors.{zer}
+use Rattle.vector.specs.Vectors.{zer, one}
 use Rattle.vector.specs.Products.{length, lengthSquared}
 use Rattle.vector.specs.Normalizing.{tryNormalize, isNormalized}
 use Rattle.vector.specs.DirectionOf.{acceptable}
@@ -32,6 +33,14 @@ ComputedNear c a = T (finite (lengthSquared a)) × Within (sizeIn binary32 (leng
 
 abbrev pub LawN : Type 0
 LawN = ((a : Vec3) → UnitWithin 15 a → ComputedNear 20 a) × ((a : Vec3) → Direction a → isNormalized a ≡ true)
+
+-- 2^-19
+abbrev pub small : Float
+small = ofBits binary32 0x36000000
+
+-- and back: a vector whose computed `length_squared` differs from 1 by at most 2^-19 is a direction
+abbrev pub DirectionIfTested : Type 0
+DirectionIfTested = (a : Vec3) → F32Vec a → T (le (abs (sub binary32 (lengthSquared a) one)) small) → Direction a
 
 -- a number between 0.99 and 1.01
 abbrev pub AboutOne : Float → Type 0

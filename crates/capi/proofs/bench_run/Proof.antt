@@ -1,3 +1,4 @@
+-- `capi::bench_run` meets its contract. Assumes nothing.
 use Rattle.capi.proofs.RunLaws.{run-answered}
 use borrow.Author.Needs.{needs}
 use Rattle.capi.proofs.bench_run.Statement.{statement}

@@ -1,3 +1,4 @@
+-- `probe::main` meets its contract, if the C library's `read` and `write` keep theirs.
 use mathlib.Core.Path.{_≡_}
 use lib.ListN.{length}
 use borrow.Author.Needs.{needs}

@@ -1,3 +1,4 @@
+-- `probe::take` meets its contract, if the C library's `read` and `write` keep theirs.
 use Prim.Native.Nat.{_*_, _-_, _≤_}
 use mathlib.Core.Path.{_≡_}
 use lib.ListN.{length}

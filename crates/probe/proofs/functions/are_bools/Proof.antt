@@ -1,3 +1,4 @@
+-- `probe::functions::are_bools` meets its contract, if the C library's `read` and `write` keep theirs.
 use Prim.Native.Nat.{_≤_, _-_}
 use borrow.Author.Needs.{needs}
 use Rattle.probe.proofs.functions.are_bools.Statement.{statement}

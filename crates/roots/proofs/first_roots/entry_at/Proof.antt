@@ -1,3 +1,4 @@
+-- `roots::first_roots::entry_at` meets its contract. Assumes nothing.
 use mathlib.Core.List.{[], _∷_}
 use mathlib.Core.Path.{_∙_, ap}
 use Prim.Native.Nat.{ℕ, _*_, _/_, _%_, _^_}

@@ -1,3 +1,4 @@
+-- `scalar::acos::acos_approx` meets its contract. Assumes nothing.
 use Rattle.scalar.proofs.ComposedLaws.{acos-is, clamped-is}
 use Rattle.scalar.specs.Sign.{one}
 use Rattle.scalar.specs.Acos.{clamped}

@@ -1,3 +1,4 @@
+-- `scalar::bits::from_bits` meets its contract. Assumes nothing.
 use Rattle.scalar.proofs.SignLaws.{zero-by-zero, pattern-nan, pattern-plain}
 use mathlib.Core.Path.{sym, _∙_}
 use borrow.Author.Needs.{needs}

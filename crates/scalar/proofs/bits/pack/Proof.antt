@@ -1,3 +1,4 @@
+-- `scalar::bits::pack` meets its contract. Assumes nothing.
 use Rattle.scalar.proofs.PackLaws.{pack-is, plain, plain-top, turned}
 use Rattle.scalar.proofs.SignLaws.{pattern-plain}
 use lib.Ieee.{binary32, ofBits, units}

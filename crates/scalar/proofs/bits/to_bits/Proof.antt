@@ -1,3 +1,4 @@
+-- `scalar::bits::to_bits` meets its contract. Assumes nothing.
 use mathlib.Core.Path.{sym, ap, subst}
 use lib.Dec.{T}
 use lib.Ieee.{binary32, toBits}

@@ -1,3 +1,4 @@
+-- `scalar::euclid::div_euclid` meets its contract. Assumes nothing.
 use Rattle.scalar.proofs.ComposedLaws.{div-is}
 use Rattle.scalar.specs.Sign.{one}
 use Rattle.scalar.specs.Euclid.{zer}

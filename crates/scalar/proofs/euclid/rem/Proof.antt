@@ -1,3 +1,4 @@
+-- `scalar::euclid::rem` meets its contract. Assumes nothing.
 use mathlib.Core.Path.{refl}
 use Rattle.scalar.proofs.euclid.rem.Statement.{statement}
 use Rattle.scalar.proofs.euclid.rem.Tie as tie

@@ -1,3 +1,4 @@
+-- `scalar::euclid::rem_euclid` meets its contract. Assumes nothing.
 use Rattle.scalar.proofs.ComposedLaws.{rem-is}
 use lib.Ieee.{Float, binary32, add, rem}
 use mathlib.Core.Bool.{true, false}

@@ -1,3 +1,4 @@
+-- `scalar::integral::trunc` meets its contract. Assumes nothing.
 use mathlib.Core.Path.{_≡_, sym, _∙_, subst}
 use borrow.Author.Needs.{needs}
 use lib.Dec.{T}

@@ -1,3 +1,4 @@
+-- `scalar::root::newton` meets its contract. Assumes nothing.
 use native.Mathlib.Nat.{div-le-self}
 use native.Mathlib.Omega.{arith}
 use borrow.Author.Needs.{needs}

@@ -1,3 +1,4 @@
+-- `scalar::root::root_of` meets its contract. Assumes nothing.
 use mathlib.Core.Path.{sym, _∙_}
 use borrow.Author.Needs.{needs}
 use Rattle.scalar.proofs.RootPartsLaws.{root-all}

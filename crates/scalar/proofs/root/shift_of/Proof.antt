@@ -1,3 +1,4 @@
+-- `scalar::root::shift_of` meets its contract. Assumes nothing.
 use native.Mathlib.Omega.{arith}
 use borrow.Author.Needs.{needs}
 use Rattle.scalar.proofs.RootPartsLaws.{zeros-in, shift-is}

@@ -1,3 +1,4 @@
+-- `scalar::root::sqrt` meets its contract. Assumes nothing.
 use mathlib.Core.Path.{_≡_, refl, sym, _∙_, subst}
 use mathlib.Core.Bool.{false}
 use Prim.Native.Nat.{_+_, _-_, _/_, _%_}

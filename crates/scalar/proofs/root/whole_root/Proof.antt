@@ -1,3 +1,4 @@
+-- `scalar::root::whole_root` meets its contract. Assumes nothing.
 use native.Mathlib.Omega.{arith}
 use borrow.Author.Needs.{needs}
 use Rattle.scalar.specs.RootParts.{AboveRoot}

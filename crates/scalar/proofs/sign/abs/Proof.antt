@@ -1,3 +1,4 @@
+-- `scalar::sign::abs` meets its contract. Assumes nothing.
 use Rattle.scalar.proofs.SignLaws.{abs-neg, abs-pos}
 use mathlib.Core.Path.{_≡_, refl, sym, ap, _∙_, subst}
 use borrow.Author.Needs.{needs}

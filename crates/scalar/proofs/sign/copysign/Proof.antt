@@ -1,3 +1,4 @@
+-- `scalar::sign::copysign` meets its contract. Assumes nothing.
 use mathlib.Core.Bool.{true, false}
 use Rattle.scalar.proofs.SignLaws.{copy}
 use lib.Ieee.{neg}

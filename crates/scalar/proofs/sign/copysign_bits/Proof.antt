@@ -1,3 +1,4 @@
+-- `scalar::sign::copysign_bits` meets its contract. Assumes nothing.
 use native.Mathlib.Nat.{zero-add}
 use borrow.Author.Tests.{le-leb, lt-leb}
 use borrow.Author.Needs.{needs}

@@ -1,3 +1,4 @@
+-- `scalar::sign::is_finite` meets its contract. Assumes nothing.
 use mathlib.Core.Path.{_≡_, subst}
 use mathlib.Core.Logic.{inl, inr}
 use Rattle.scalar.specs.Parts.{Decoded}

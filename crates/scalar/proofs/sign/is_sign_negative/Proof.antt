@@ -1,3 +1,4 @@
+-- `scalar::sign::is_sign_negative` meets its contract. Assumes nothing.
 use Rattle.scalar.proofs.SignLaws.{sign-nan, sign-inf, sign-odd}
 use Rattle.scalar.specs.declared.bits.Parts.{Parts}
 use Rattle.scalar.specs.Parts.{Decoded}

@@ -1,3 +1,4 @@
+-- `scalar::sign::is_sign_negative_bits` meets its contract. Assumes nothing.
 use mathlib.Core.Path.{refl}
 use Rattle.scalar.proofs.sign.is_sign_negative_bits.Statement.{statement}
 use Rattle.scalar.proofs.sign.is_sign_negative_bits.Tie as tie

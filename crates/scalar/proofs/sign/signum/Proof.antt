@@ -1,3 +1,4 @@
+-- `scalar::sign::signum` meets its contract. Assumes nothing.
 use Rattle.scalar.proofs.SignLaws.{sign-of-nan, sign-of-other}
 use lib.Ieee.{ofBits}
 use mathlib.Core.Path.{sym, _∙_}

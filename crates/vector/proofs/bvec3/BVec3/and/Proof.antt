@@ -1,3 +1,4 @@
+-- `vector::bvec3::BVec3::and` meets its contract. Assumes nothing.
 use mathlib.Core.Path.{refl}
 use Rattle.vector.specs.Masks.{and}
 use Rattle.vector.proofs.bvec3.BVec3.and.Statement.{statement}

@@ -1,3 +1,4 @@
+-- `vector::bvec3::BVec3::bitmask` meets its contract. Assumes nothing.
 use borrow.Author.Needs.{needs}
 use Rattle.vector.specs.Masks.{bitmask}
 use Rattle.vector.proofs.MaskLaws.{bits-sum}

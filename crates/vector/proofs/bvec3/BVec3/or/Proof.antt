@@ -1,3 +1,4 @@
+-- `vector::bvec3::BVec3::or` meets its contract. Assumes nothing.
 use mathlib.Core.Path.{refl}
 use Rattle.vector.specs.Masks.{or}
 use Rattle.vector.proofs.bvec3.BVec3.or.Statement.{statement}

@@ -1,3 +1,4 @@
+-- `vector::bvec3::BVec3::test` meets its contract. Assumes nothing.
 use borrow.Author.Tests.{ne-eqb}
 use Rattle.vector.specs.Indexed.{indexed}
 use Rattle.vector.specs.Masks.{test}

@@ -1,3 +1,4 @@
+-- `vector::vec3::Vec3::abs_diff_eq` meets its contract. Assumes nothing.
 use mathlib.Core.Path.{sym, _∙_}
 use mathlib.Core.Logic.{inl, inr}
 use mathlib.Core.Bool.{true≢false}

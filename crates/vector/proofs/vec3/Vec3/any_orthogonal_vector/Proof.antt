@@ -1,3 +1,4 @@
+-- `vector::vec3::Vec3::any_orthogonal_vector` meets its contract. Assumes nothing.
 use Rattle.vector.specs.Orthogonal.{anyOrthogonalVector}
 use borrow.Author.Needs.{needs}
 use Rattle.vector.proofs.vec3.Vec3.any_orthogonal_vector.Statement.{statement}

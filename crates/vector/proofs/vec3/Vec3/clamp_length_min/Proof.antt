@@ -1,3 +1,4 @@
+-- `vector::vec3::Vec3::clamp_length_min` meets its contract. Assumes nothing.
 use Rattle.vector.specs.LengthClamps.{clampLengthMin}
 use borrow.Author.Needs.{needs}
 use Rattle.vector.proofs.vec3.Vec3.clamp_length_min.Statement.{statement}

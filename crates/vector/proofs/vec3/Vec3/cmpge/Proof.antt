@@ -1,3 +1,4 @@
+-- `vector::vec3::Vec3::cmpge` meets its contract. Assumes nothing.
 use borrow.Author.Needs.{needs}
 use Rattle.vector.specs.Comparisons.{cmpge}
 use Rattle.vector.proofs.vec3.Vec3.cmpge.Statement.{statement}

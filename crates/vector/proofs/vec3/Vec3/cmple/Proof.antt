@@ -1,3 +1,4 @@
+-- `vector::vec3::Vec3::cmple` meets its contract. Assumes nothing.
 use borrow.Author.Needs.{needs}
 use Rattle.vector.specs.Comparisons.{cmple}
 use Rattle.vector.proofs.vec3.Vec3.cmple.Statement.{statement}

@@ -1,3 +1,4 @@
+-- `vector::vec3::Vec3::cmplt` meets its contract. Assumes nothing.
 use borrow.Author.Needs.{needs}
 use Rattle.vector.specs.Comparisons.{cmplt}
 use Rattle.vector.proofs.vec3.Vec3.cmplt.Statement.{statement}

@@ -1,3 +1,4 @@
+-- `vector::vec3::Vec3::component` meets its contract. Assumes nothing.
 use borrow.Author.Tests.{ne-eqb}
 use Rattle.vector.specs.Indexed.{indexed, component}
 use Rattle.vector.proofs.vec3.Vec3.component.Statement.{statement}

@@ -1,3 +1,4 @@
+-- `vector::vec3::Vec3::copysign` meets its contract. Assumes nothing.
 use borrow.Author.Needs.{needs}
 use Rattle.vector.specs.Signs.{copysign}
 use Rattle.vector.proofs.vec3.Vec3.copysign.Statement.{statement}
@@ -14,7 +15,7 @@ copysign-requires-3 c κs = search needs
 
 returns : tie.Need-returns
 unfolding copysign
-returns c = simp (← c .before .before .copysign .ensures, ← c .before .copysign2 .ensures, ← c .copysign3 .ensures)
+returns c = simp (c .before .before .copysign .ensures, c .before .copysign2 .ensures, c .copysign3 .ensures)
 
 pub copysign-spec : {M : Type 1} → statement M
 copysign-spec = tie.close (tie.spec copysign-requires copysign-requires-2 copysign-requires-3 returns)

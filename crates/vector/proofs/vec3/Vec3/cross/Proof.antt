@@ -1,3 +1,4 @@
+-- `vector::vec3::Vec3::cross` meets its contract. Assumes nothing.
 use mathlib.Core.Path.{refl}
 use Rattle.vector.specs.Products.{cross}
 use Rattle.vector.proofs.vec3.Vec3.cross.Statement.{statement}

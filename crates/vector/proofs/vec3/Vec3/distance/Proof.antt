@@ -1,3 +1,4 @@
+-- `vector::vec3::Vec3::distance` meets its contract. Assumes nothing.
 use borrow.Author.Needs.{needs}
 use Rattle.vector.specs.Products.{distance}
 use Rattle.vector.proofs.vec3.Vec3.distance.Statement.{statement}
@@ -11,7 +12,7 @@ length-requires c κs = search needs
 
 returns : tie.Need-returns
 unfolding distance
-returns c = simp (← c .before .sub .ensures, ← c .length .ensures)
+returns c = simp (c .before .sub .ensures, c .length .ensures)
 
 pub distance-spec : {M : Type 1} → statement M
 distance-spec = tie.close (tie.spec sub-requires length-requires returns)

@@ -1,3 +1,4 @@
+-- `vector::vec3::Vec3::distance_squared` meets its contract. Assumes nothing.
 use borrow.Author.Needs.{needs}
 use Rattle.vector.specs.Products.{distanceSquared}
 use Rattle.vector.proofs.vec3.Vec3.distance_squared.Statement.{statement}
@@ -11,7 +12,7 @@ length-squared-requires c κs = search needs
 
 returns : tie.Need-returns
 unfolding distanceSquared
-returns c = simp (← c .before .sub .ensures, ← c .length-squared .ensures)
+returns c = simp (c .before .sub .ensures, c .length-squared .ensures)
 
 pub distance-squared-spec : {M : Type 1} → statement M
 distance-squared-spec = tie.close (tie.spec sub-requires length-squared-requires returns)

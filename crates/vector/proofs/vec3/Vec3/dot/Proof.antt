@@ -1,3 +1,4 @@
+-- `vector::vec3::Vec3::dot` meets its contract. Assumes nothing.
 use mathlib.Core.Path.{refl}
 use Rattle.vector.specs.Products.{dot}
 use Rattle.vector.proofs.vec3.Vec3.dot.Statement.{statement}

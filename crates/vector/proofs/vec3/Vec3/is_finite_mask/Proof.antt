@@ -1,3 +1,4 @@
+-- `vector::vec3::Vec3::is_finite_mask` meets its contract. Assumes nothing.
 use borrow.Author.Needs.{needs}
 use Rattle.vector.specs.Comparisons.{isFiniteMask}
 use Rattle.vector.proofs.vec3.Vec3.is_finite_mask.Statement.{statement}
@@ -17,7 +18,7 @@ new-requires c κs = search needs
 
 returns : tie.Need-returns
 unfolding isFiniteMask
-returns c = simp (← c .before .before .before .is-finite .ensures, ← c .before .before .is-finite2 .ensures, ← c .before .is-finite3 .ensures, ← c .new .ensures)
+returns c = simp (c .before .before .before .is-finite .ensures, c .before .before .is-finite2 .ensures, c .before .is-finite3 .ensures, c .new .ensures)
 
 pub is-finite-mask-spec : {M : Type 1} → statement M
 is-finite-mask-spec = tie.close (tie.spec is-finite-requires is-finite-requires-2 is-finite-requires-3 new-requires returns)

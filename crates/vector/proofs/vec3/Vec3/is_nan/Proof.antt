@@ -1,3 +1,4 @@
+-- `vector::vec3::Vec3::is_nan` meets its contract. Assumes nothing.
 use mathlib.Core.Path.{_≡_}
 use mathlib.Core.Logic.{_⊎_, inl, inr}
 use mathlib.Core.Bool.{_||_}

@@ -1,3 +1,4 @@
+-- `vector::vec3::Vec3::length` meets its contract. Assumes nothing.
 use borrow.Author.Needs.{needs}
 use Rattle.vector.specs.Products.{length}
 use Rattle.vector.proofs.vec3.Vec3.length.Statement.{statement}
@@ -11,7 +12,7 @@ sqrt-requires c κs = search needs
 
 returns : tie.Need-returns
 unfolding length
-returns c = simp (← c .before .dot .ensures, ← c .sqrt .ensures)
+returns c = simp (c .before .dot .ensures, c .sqrt .ensures)
 
 pub length-spec : {M : Type 1} → statement M
 length-spec = tie.close (tie.spec dot-requires sqrt-requires returns)

@@ -1,3 +1,4 @@
+-- `vector::vec3::Vec3::length_squared` meets its contract. Assumes nothing.
 use borrow.Author.Needs.{needs}
 use Rattle.vector.specs.Products.{lengthSquared}
 use Rattle.vector.proofs.vec3.Vec3.length_squared.Statement.{statement}

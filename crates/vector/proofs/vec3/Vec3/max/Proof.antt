@@ -1,3 +1,4 @@
+-- `vector::vec3::Vec3::max` meets its contract. Assumes nothing.
 use borrow.Author.Needs.{needs}
 use Rattle.vector.specs.Elements.{max}
 use Rattle.vector.proofs.vec3.Vec3.max.Statement.{statement}
@@ -14,7 +15,7 @@ max-requires-3 c κs = search needs
 
 returns : tie.Need-returns
 unfolding max
-returns c = simp (← c .before .before .max .ensures, ← c .before .max2 .ensures, ← c .max3 .ensures)
+returns c = simp (c .before .before .max .ensures, c .before .max2 .ensures, c .max3 .ensures)
 
 pub max-spec : {M : Type 1} → statement M
 max-spec = tie.close (tie.spec max-requires max-requires-2 max-requires-3 returns)

@@ -1,3 +1,4 @@
+-- `vector::vec3::Vec3::min` meets its contract. Assumes nothing.
 use borrow.Author.Needs.{needs}
 use Rattle.vector.specs.Elements.{min}
 use Rattle.vector.proofs.vec3.Vec3.min.Statement.{statement}
@@ -14,7 +15,7 @@ min-requires-3 c κs = search needs
 
 returns : tie.Need-returns
 unfolding min
-returns c = simp (← c .before .before .min .ensures, ← c .before .min2 .ensures, ← c .min3 .ensures)
+returns c = simp (c .before .before .min .ensures, c .before .min2 .ensures, c .min3 .ensures)
 
 pub min-spec : {M : Type 1} → statement M
 min-spec = tie.close (tie.spec min-requires min-requires-2 min-requires-3 returns)

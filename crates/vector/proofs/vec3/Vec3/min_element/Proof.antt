@@ -1,3 +1,4 @@
+-- `vector::vec3::Vec3::min_element` meets its contract. Assumes nothing.
 use borrow.Author.Needs.{needs}
 use Rattle.vector.specs.Elements.{minElement}
 use Rattle.vector.proofs.vec3.Vec3.min_element.Statement.{statement}
@@ -11,7 +12,7 @@ min-requires-2 c κs = search needs
 
 returns : tie.Need-returns
 unfolding minElement
-returns c = simp (← c .before .min .ensures, ← c .min2 .ensures)
+returns c = simp (c .before .min .ensures, c .min2 .ensures)
 
 pub min-element-spec : {M : Type 1} → statement M
 min-element-spec = tie.close (tie.spec min-requires min-requires-2 returns)

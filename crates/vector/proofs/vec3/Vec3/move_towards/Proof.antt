@@ -1,3 +1,4 @@
+-- `vector::vec3::Vec3::move_towards` meets its contract. Assumes nothing.
 use mathlib.Core.Logic.{inl, inr}
 use Rattle.vector.specs.Interpolation.{moveTowards}
 use borrow.Author.Needs.{needs}
@@ -29,7 +30,10 @@ add-requires c κs = search needs
 
 returns-2 : tie.Need-returns-2
 unfolding moveTowards
-returns-2 c = simp (← c .before .before .before .before .before .before .sub .ensures, ← c .before .before .before .before .before .length .ensures, c .before .before .before .before .if1 .left, c .before .before .before .if2 .left, ← c .before .before .div-f32 .ensures, ← c .before .mul-f32 .ensures, ← c .add .ensures)
+returns-2 c =
+    let at-length = c .before .before .before .before .before in
+    let at-sub = at-length .before in
+    simp (← at-sub .sub .ensures, ← at-length .length .ensures, c .before .before .before .before .if1 .left, c .before .before .before .if2 .left, ← c .before .before .div-f32 .ensures, ← c .before .mul-f32 .ensures, ← c .add .ensures)
 
 pub move-towards-spec : {M : Type 1} → statement M
 move-towards-spec =

@@ -1,3 +1,4 @@
+-- `vector::vec3::Vec3::mul_add` meets its contract. Assumes nothing.
 use Rattle.vector.specs.Interpolation.{mulAdd}
 use borrow.Author.Needs.{needs}
 use Rattle.vector.proofs.vec3.Vec3.mul_add.Statement.{statement}
@@ -14,7 +15,7 @@ mul-add-requires-3 c κs = search needs
 
 returns : tie.Need-returns
 unfolding mulAdd
-returns c = simp (← c .before .before .mul-add .ensures, ← c .before .mul-add2 .ensures, ← c .mul-add3 .ensures)
+returns c = simp (c .before .before .mul-add .ensures, c .before .mul-add2 .ensures, c .mul-add3 .ensures)
 
 pub mul-add-spec : {M : Type 1} → statement M
 mul-add-spec = tie.close (tie.spec mul-add-requires mul-add-requires-2 mul-add-requires-3 returns)

@@ -1,3 +1,4 @@
+-- `vector::vec3::Vec3::mul_f32` meets its contract. Assumes nothing.
 use mathlib.Core.Path.{refl}
 use Rattle.vector.specs.Operators.{mulNumber}
 use Rattle.vector.proofs.vec3.Vec3.mul_f32.Statement.{statement}

@@ -1,3 +1,4 @@
+-- `vector::vec3::Vec3::normalize_and_length` meets its contract. Assumes nothing.
 use Rattle.vector.specs.Normalizing.{normalizeAndLength}
 use borrow.Author.Needs.{needs}
 use Rattle.vector.proofs.vec3.Vec3.normalize_and_length.Statement.{statement}

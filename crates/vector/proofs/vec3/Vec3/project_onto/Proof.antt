@@ -1,3 +1,4 @@
+-- `vector::vec3::Vec3::project_onto` meets its contract. Assumes nothing.
 use Rattle.vector.specs.Projections.{projectOnto}
 use borrow.Author.Needs.{needs}
 use Rattle.vector.proofs.vec3.Vec3.project_onto.Statement.{statement}
@@ -19,10 +20,10 @@ returns : tie.Need-returns
 unfolding projectOnto
 returns c =
     simp (
-      ← c .before .before .before .dot .ensures,
-      ← c .before .before .dot2 .ensures,
-      ← c .before .mul-f32 .ensures,
-      ← c .mul-f322 .ensures,
+      c .before .before .before .dot .ensures,
+      c .before .before .dot2 .ensures,
+      c .before .mul-f32 .ensures,
+      c .mul-f322 .ensures,
     )
 
 pub project-onto-spec : {M : Type 1} → statement M

@@ -1,3 +1,4 @@
+-- `vector::vec3::Vec3::project_onto_normalized` meets its contract. Assumes nothing.
 use Rattle.vector.specs.Projections.{projectOntoNormalized}
 use borrow.Author.Needs.{needs}
 use Rattle.vector.proofs.vec3.Vec3.project_onto_normalized.Statement.{statement}
@@ -11,7 +12,7 @@ mul-f32-requires c κs = search needs
 
 returns : tie.Need-returns
 unfolding projectOntoNormalized
-returns c = simp (← c .before .dot .ensures, ← c .mul-f32 .ensures)
+returns c = simp (c .before .dot .ensures, c .mul-f32 .ensures)
 
 pub project-onto-normalized-spec : {M : Type 1} → statement M
 project-onto-normalized-spec = tie.close (tie.spec dot-requires mul-f32-requires returns)

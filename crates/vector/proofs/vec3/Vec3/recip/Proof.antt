@@ -1,3 +1,4 @@
+-- `vector::vec3::Vec3::recip` meets its contract. Assumes nothing.
 use mathlib.Core.Path.{refl}
 use Rattle.vector.specs.Rounding.{recip}
 use Rattle.vector.proofs.vec3.Vec3.recip.Statement.{statement}

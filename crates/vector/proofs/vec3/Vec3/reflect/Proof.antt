@@ -1,3 +1,4 @@
+-- `vector::vec3::Vec3::reflect` meets its contract. Assumes nothing.
 use Rattle.vector.specs.Optics.{reflect}
 use borrow.Author.Needs.{needs}
 use Rattle.vector.proofs.vec3.Vec3.reflect.Statement.{statement}
@@ -14,7 +15,7 @@ sub-requires c κs = search needs
 
 returns : tie.Need-returns
 unfolding reflect
-returns c = simp (← c .before .before .dot .ensures, ← c .before .f32-mul .ensures, ← c .sub .ensures)
+returns c = simp (c .before .before .dot .ensures, c .before .f32-mul .ensures, c .sub .ensures)
 
 pub reflect-spec : {M : Type 1} → statement M
 reflect-spec = tie.close (tie.spec dot-requires f32-mul-requires sub-requires returns)

@@ -1,3 +1,4 @@
+-- `vector::vec3::Vec3::refract` meets its contract. Assumes nothing.
 use Rattle.vector.specs.Optics.{refract, refractK}
 use borrow.Author.Needs.{needs}
 use Rattle.vector.proofs.vec3.Vec3.refract.Statement.{statement}

@@ -1,3 +1,4 @@
+-- `vector::vec3::Vec3::reject_from` meets its contract. Assumes nothing.
 use Rattle.vector.specs.Projections.{rejectFrom}
 use borrow.Author.Needs.{needs}
 use Rattle.vector.proofs.vec3.Vec3.reject_from.Statement.{statement}
@@ -11,7 +12,7 @@ sub-requires c κs = search needs
 
 returns : tie.Need-returns
 unfolding rejectFrom
-returns c = simp (← c .before .project-onto .ensures, ← c .sub .ensures)
+returns c = simp (c .before .project-onto .ensures, c .sub .ensures)
 
 pub reject-from-spec : {M : Type 1} → statement M
 reject-from-spec = tie.close (tie.spec project-onto-requires sub-requires returns)

@@ -1,3 +1,4 @@
+-- `vector::vec3::Vec3::round` meets its contract. Assumes nothing.
 use Rattle.vector.specs.Rounding.{round}
 use borrow.Author.Needs.{needs}
 use Rattle.vector.proofs.vec3.Vec3.round.Statement.{statement}
@@ -14,7 +15,7 @@ round-requires-3 c κs = search needs
 
 returns : tie.Need-returns
 unfolding round
-returns c = simp (← c .before .before .round .ensures, ← c .before .round2 .ensures, ← c .round3 .ensures)
+returns c = simp (c .before .before .round .ensures, c .before .round2 .ensures, c .round3 .ensures)
 
 pub round-spec : {M : Type 1} → statement M
 round-spec = tie.close (tie.spec round-requires round-requires-2 round-requires-3 returns)

@@ -1,3 +1,4 @@
+-- `vector::vec3::Vec3::saturate` meets its contract. Assumes nothing.
 use borrow.Author.Needs.{needs}
 use Rattle.vector.specs.Rounding.{saturate}
 use Rattle.vector.proofs.vec3.Vec3.saturate.Statement.{statement}

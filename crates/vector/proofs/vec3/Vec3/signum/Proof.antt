@@ -1,3 +1,4 @@
+-- `vector::vec3::Vec3::signum` meets its contract. Assumes nothing.
 use borrow.Author.Needs.{needs}
 use Rattle.vector.specs.Signs.{signum}
 use Rattle.vector.proofs.vec3.Vec3.signum.Statement.{statement}
@@ -14,7 +15,7 @@ signum-requires-3 c κs = search needs
 
 returns : tie.Need-returns
 unfolding signum
-returns c = simp (← c .before .before .signum .ensures, ← c .before .signum2 .ensures, ← c .signum3 .ensures)
+returns c = simp (c .before .before .signum .ensures, c .before .signum2 .ensures, c .signum3 .ensures)
 
 pub signum-spec : {M : Type 1} → statement M
 signum-spec = tie.close (tie.spec signum-requires signum-requires-2 signum-requires-3 returns)

@@ -1,3 +1,4 @@
+-- `vector::vec3::Vec3::step` meets its contract. Assumes nothing.
 use borrow.Author.Needs.{needs}
 use Rattle.vector.specs.Rounding.{step}
 use Rattle.vector.proofs.vec3.Vec3.step.Statement.{statement}
@@ -11,7 +12,7 @@ select-requires c κs = search needs
 
 returns : tie.Need-returns
 unfolding step
-returns c = simp (← c .before .cmplt .ensures, ← c .select .ensures)
+returns c = simp (c .before .cmplt .ensures, c .select .ensures)
 
 pub step-spec : {M : Type 1} → statement M
 step-spec = tie.close (tie.spec cmplt-requires select-requires returns)

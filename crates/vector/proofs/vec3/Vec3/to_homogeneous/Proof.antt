@@ -1,3 +1,4 @@
+-- `vector::vec3::Vec3::to_homogeneous` meets its contract. Assumes nothing.
 use borrow.Author.Needs.{needs}
 use Rattle.vector.specs.Homogeneous.{toHomogeneous}
 use Rattle.vector.proofs.vec3.Vec3.to_homogeneous.Statement.{statement}

@@ -1,3 +1,4 @@
+-- `vector::vec3::Vec3::trunc` meets its contract. Assumes nothing.
 use Rattle.vector.specs.Rounding.{trunc}
 use borrow.Author.Needs.{needs}
 use Rattle.vector.proofs.vec3.Vec3.trunc.Statement.{statement}
@@ -14,7 +15,7 @@ trunc-requires-3 c κs = search needs
 
 returns : tie.Need-returns
 unfolding trunc
-returns c = simp (← c .before .before .trunc .ensures, ← c .before .trunc2 .ensures, ← c .trunc3 .ensures)
+returns c = simp (c .before .before .trunc .ensures, c .before .trunc2 .ensures, c .trunc3 .ensures)
 
 pub trunc-spec : {M : Type 1} → statement M
 trunc-spec = tie.close (tie.spec trunc-requires trunc-requires-2 trunc-requires-3 returns)

@@ -1,3 +1,4 @@
+-- `vector::vec3::Vec3::try_normalize` meets its contract. Assumes nothing.
 use Rattle.vector.specs.Normalizing.{tryNormalize}
 use borrow.Author.Needs.{needs}
 use Rattle.vector.proofs.vec3.Vec3.try_normalize.Statement.{statement}

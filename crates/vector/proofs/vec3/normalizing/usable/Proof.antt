@@ -1,3 +1,4 @@
+-- `vector::vec3::normalizing::usable` meets its contract. Assumes nothing.
 use Rattle.vector.specs.Normalizing.{usable}
 use borrow.Author.Needs.{needs}
 use Rattle.vector.proofs.vec3.normalizing.usable.Statement.{statement}

@@ -1,0 +1,10 @@
+-- `vector::vec3::Vec3::new` meets its contract. Assumes nothing.
+use mathlib.Core.Path.{refl}
+use Rattle.vector.proofs.vec3.Vec3.new.Statement.{statement}
+use Rattle.vector.proofs.vec3.Vec3.new.Tie as tie
+
+returns : tie.Need-returns
+returns c = refl
+
+pub new-spec : {M : Type 1} → statement M
+new-spec = tie.close (tie.spec returns)
