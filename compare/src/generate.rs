@@ -85,7 +85,7 @@ impl Generator {
 }
 
 /// Arguments for a function. Now and then a bool is above 1 or an index above 2.
-fn arguments(d: &mut Draw, function: &Function) -> Vec<u32> {
+pub fn arguments(d: &mut Draw, function: &Function) -> Vec<u32> {
     let unit = FOR_UNIT_VECTORS.contains(&function.number);
     let mut numbers: Vec<u32> = Vec::new();
     let mut vectors: Vec<Vector> = Vec::new();

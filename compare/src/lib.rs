@@ -1,4 +1,4 @@
-//! The Rust of glam, unchanged, and what holds the programs `probe` and `bench` against it.
+//! The Rust of glam, unchanged, and what holds the programs `probe` and `bench` and the library of `capi` against it.
 //!
 //! glam's files are compiled where they lie, in the folder that build.rs finds. They name each other from the root of their
 //! crate, so they stand at the root of this one, beside stand-ins for what they name and the documents do not hold.

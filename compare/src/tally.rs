@@ -52,6 +52,11 @@ impl Default for Tally {
 }
 
 impl Tally {
+    /// Takes a fresh sheet, for another list of commands. The account goes on.
+    pub fn take_fresh_sheet(&mut self) {
+        self.sheet = Sheet::fresh();
+    }
+
     /// Answers the command of a line, or refuses a line that has none.
     pub fn answer(&mut self, command: Option<Command>) -> Answer {
         let Some(command) = command else {

@@ -1,6 +1,7 @@
 //! Sittings by a seed: command lines that build on rows of earlier ones, reach every outcome of every command, and malformed lines.
 
 mod choose;
+mod lists;
 pub mod named;
 mod numbers;
 mod spoil;

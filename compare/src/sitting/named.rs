@@ -3,7 +3,7 @@
 
 use super::Sitting;
 use crate::cases::{cases, CASES};
-use crate::sheet::lines::write_command;
+use crate::sheet::lines::{read, write_command};
 use crate::sheet::{Command, COMMANDS};
 
 /// A row that the named cases leave empty, and one that they leave a direction.
@@ -61,12 +61,17 @@ const INFINITY: u32 = 0x7f80_0000;
 /// How long a long line is.
 const LONG: usize = 100_000;
 
+/// The named commands: document 01's listing, the named cases, each field of each command refused.
+pub fn commands() -> Vec<Command> {
+    let listing = LISTING.lines().map(|line| read(line.as_bytes()).expect("it is well formed"));
+    let named = cases(CASES).into_iter().map(|case| case.command);
+    listing.chain(named).chain((0..COMMANDS).flat_map(refused)).collect()
+}
+
 impl Sitting {
-    /// Appends the named lines.
+    /// Appends the lines of the named commands, and malformed lines.
     pub fn named(&mut self, out: &mut Vec<u8>) {
-        LISTING.lines().for_each(|line| self.given(line.as_bytes(), out));
-        let named = cases(CASES).into_iter().map(|case| case.command);
-        for command in named.chain((0..COMMANDS).flat_map(refused)) {
+        for command in commands() {
             let start = out.len();
             write_command(&command, out);
             self.run(&out[start..out.len() - 1]);
