@@ -24,6 +24,10 @@ digit-range b h = go (leb 48 b) refl h
     go true e h = (leb-true 48 b e, leb-true b 57 h)
     go false e h = absurd (no (sym h))
 
+pub and-false : (x : Bool) → x && false ≡ false
+and-false true = refl
+and-false false = refl
+
 -- the parts of a conjunction
 pub both-true : (x y : Bool) → x && y ≡ true → (x ≡ true) × (y ≡ true)
 both-true true y e = (refl, e)
@@ -49,10 +53,6 @@ numeral-no-zero : (ds : List ℕ) (n : ℕ) → Numeral ds n → leadingZero ds 
 unfolding leadingZero
 numeral-no-zero ds n h = go (eqb (getD ds 0 0) 48) refl
   where
-    and-false : (x : Bool) → x && false ≡ false
-    and-false true = refl
-    and-false false = refl
-
     go : (x : Bool) → eqb (getD ds 0 0) 48 ≡ x → ltb 1 (length ds) && eqb (getD ds 0 0) 48 ≡ false
     go true e = rw (h .zero-alone (eqb-true _ _ e)) refl
     go false e = rw e (and-false (ltb 1 (length ds)))

@@ -5,14 +5,13 @@ use mathlib.Core.Path.{_≡_, refl, sym, ap, _∙_}
 use mathlib.Core.List.{List, [], _∷_}
 use native.Mathlib.Omega.{arith}
 use native.Mathlib.Nat.{mul-le-mul}
-use lib.Dec.{eqb, leb}
-use borrow.Author.Tests.{eqb-true, eqb-false, eq-eqb, ne-eqb, le-leb, lt-leb}
+use lib.Dec.{eqb}
+use borrow.Author.Tests.{eqb-true, ne-eqb, le-leb}
 use lib.ListN.{length, getD, drop}
-use Rattle.lines.specs.declared.field.Reading.{Reading}
 use Rattle.lines.specs.declared.field.Reading.the-variants.{Value, Ill}
 use Rattle.lines.specs.Field.{digits, isDigit, decimal, valueFrom, value, leadingZero, number}
 use Rattle.lines.specs.ColumnParts.{bit}
-use Rattle.lines.proofs.FieldMeaningLaws.{digit-range}
+use Rattle.lines.proofs.FieldMeaningLaws.{digit-range, and-false}
 use Rattle.lines.proofs.ReadLaws.{cond-same}
 
 -- ---- tests as numbers
@@ -23,29 +22,6 @@ bit-and true true = refl
 bit-and true false = refl
 bit-and false true = refl
 bit-and false false = refl
-
-pub bit-below-two : (x : Bool) → bit x ≤ 1
-unfolding bit
-bit-below-two true = omega arith
-bit-below-two false = omega arith
-
--- ---- the part after the blanks
-
-pub after-blanks : (l : List ℕ) → length l ≡ 3 → (getD l 2 0 ≡ 32 → ⊥)
-    → drop (bit (eqb (getD l 0 0) 32) + bit (eqb (getD l 0 0) 32) * bit (eqb (getD l 1 0) 32)) l ≡ digits l
-unfolding digits bit
-after-blanks [] h n = absurd (omega (arith, h))
-after-blanks (a ∷ []) h n = absurd (omega (arith, h))
-after-blanks (a ∷ b ∷ []) h n = absurd (omega (arith, h))
-after-blanks (a ∷ b ∷ c ∷ d ∷ l) h n = absurd (omega (arith, h))
-after-blanks (a ∷ b ∷ c ∷ []) h n = go (eqb a 32) (eqb b 32) refl refl
-  where
-    go : (x y : Bool) → eqb a 32 ≡ x → eqb b 32 ≡ y
-        → drop (bit (eqb a 32) + bit (eqb a 32) * bit (eqb b 32)) (a ∷ b ∷ c ∷ []) ≡ digits (a ∷ b ∷ c ∷ [])
-    go true true p q = rw (p, q, ne-eqb c 32 n) refl
-    go true false p q = rw (p, q) refl
-    go false true p q = rw (p, q) refl
-    go false false p q = rw (p, q) refl
 
 pub product-below-two : (i k : ℕ) → i ≤ 1 → k ≤ 1 → i * k ≤ 1
 product-below-two i k p q = mul-le-mul p q
@@ -58,12 +34,33 @@ columns (a ∷ b ∷ []) h = absurd (omega (arith, h))
 columns (a ∷ b ∷ c ∷ d ∷ l) h = absurd (omega (arith, h))
 columns (a ∷ b ∷ c ∷ []) h = refl
 
+-- ---- the part after the blanks
+
+blanks-dropped : (a b c : ℕ) → (c ≡ 32 → ⊥) → drop (bit (eqb a 32) + bit (eqb a 32) * bit (eqb b 32)) (a ∷ b ∷ c ∷ []) ≡ digits (a ∷ b ∷ c ∷ [])
+unfolding digits bit
+blanks-dropped a b c n = go (eqb a 32) (eqb b 32) refl refl
+  where
+    go : (x y : Bool) → eqb a 32 ≡ x → eqb b 32 ≡ y
+        → drop (bit (eqb a 32) + bit (eqb a 32) * bit (eqb b 32)) (a ∷ b ∷ c ∷ []) ≡ digits (a ∷ b ∷ c ∷ [])
+    go true true p q = rw (p, q, ne-eqb c 32 n) refl
+    go true false p q = rw (p, q) refl
+    go false true p q = rw (p, q) refl
+    go false false p q = rw (p, q) refl
+
+pub after-blanks : (l : List ℕ) → length l ≡ 3 → (getD l 2 0 ≡ 32 → ⊥)
+    → drop (bit (eqb (getD l 0 0) 32) + bit (eqb (getD l 0 0) 32) * bit (eqb (getD l 1 0) 32)) l ≡ digits l
+after-blanks l three n =
+    ap (drop (bit (eqb (getD l 0 0) 32) + bit (eqb (getD l 0 0) 32) * bit (eqb (getD l 1 0) 32))) (columns l three)
+    ∙ blanks-dropped (getD l 0 0) (getD l 1 0) (getD l 2 0) n
+    ∙ sym (ap digits (columns l three))
+
 -- ---- one, two and three digits, the last of them a digit
 
--- how many digits there have to be, if a and b are digits where they are not blank: five where there is a leading zero
+-- the digits among a, b and the last column, and four more where there is a leading zero, so that it is above three
 abbrev pub counted : ℕ → ℕ → List ℕ → ℕ
 counted a b d = bit (isDigit a) + bit (isDigit b) + 1 + bit (leadingZero d) * 4
 
+-- the sum of the columns, in which a blank, 32, adds nothing
 abbrev pub summed : ℕ → ℕ → ℕ → ℕ
 summed a b c = a % 16 * 100 + b % 16 * 10 + c % 16
 
@@ -113,10 +110,6 @@ module _ (c : ℕ) (lo : 48 ≤ c) (hi : c ≤ 57) where
       go false y p q = rw p (three-digits a b (isDigit a) (isDigit b) (eqb a 48) refl refl refl)
 
 -- ---- the last of them no digit
-
-and-false : (x : Bool) → x && false ≡ false
-and-false true = refl
-and-false false = refl
 
 not-decimal : (d : List ℕ) → decimal d ≡ false → Ill ≡ number d
 unfolding number value

@@ -1,5 +1,5 @@
-// A field of three columns. Its tests are numbers that are multiplied and added, so that no branch hangs on how many digits it has: a processor
-// often guesses such a branch wrong, and that costs more than the reading.
+// A field of three columns. Its tests are numbers, 0 or 1, that are multiplied and added, so that no branch depends on how many digits it has: a
+// processor often mispredicts such a branch, and that takes longer than the reading.
 ghost use mathlib.Core.Path.{_≡_};
 ghost use Prim.Native.Nat.{_≤_, _<_};
 ghost use lib.Dec.{eqb};
@@ -48,7 +48,8 @@ fn digits(field: &[u8]) -> &[u8]
     &field[first + second..]
 }
 
-// The number of the three columns: blanks count nothing, and all that is not blank before the digits is a digit.
+// The number of the three columns. The last is a digit, and there are as many digits as bytes after the blanks; a leading zero adds four to their
+// count, so that it is too high. A blank adds nothing to the sum: it is 32, twice 16.
 pub(crate) fn number(field: &[u8]) -> Reading
     requires { ⌜ length (now field) ≡ 3 ⌝ }
     ensures { λ r. ⌜ r ≡ Field.number (Field.digits (now (field .entry))) ⌝ }
