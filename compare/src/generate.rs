@@ -2,7 +2,7 @@
 
 use crate::calls::{called_by, Form, Function};
 use crate::decimal;
-use crate::values::{float, measure, related, related_vector, unit_vector, vector, Draw, Vector};
+use crate::values::{far_apart, float, measure, related, related_vector, unit_vector, vector, Draw, Vector};
 
 /// How many lines a piece has.
 const PIECE: u64 = 65_536;
@@ -12,6 +12,9 @@ const SPOILED: u32 = 32;
 
 /// The functions that are meant for vectors of length 1.
 const FOR_UNIT_VECTORS: [u32; 7] = [76, 79, 80, 97, 98, 101, 102];
+
+/// The functions of two numbers that divide with a remainder: exponents far apart in half of their calls.
+const REMAINDERS: [u32; 3] = [9, 10, 11];
 
 /// Bytes that a spoiled line may have got.
 const BYTES: &[u8] = b" 0123456789 \t\r\0-+.,ex\xff";
@@ -86,6 +89,9 @@ impl Generator {
 
 /// Arguments for a function. Now and then a bool is above 1 or an index above 2.
 pub fn arguments(d: &mut Draw, function: &Function) -> Vec<u32> {
+    if REMAINDERS.contains(&function.number) && d.once_in(2) {
+        return far_apart(d).to_vec();
+    }
     let unit = FOR_UNIT_VECTORS.contains(&function.number);
     let mut numbers: Vec<u32> = Vec::new();
     let mut vectors: Vec<Vector> = Vec::new();

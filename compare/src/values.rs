@@ -115,6 +115,13 @@ pub fn with_exponent(d: &mut Draw, low: i32, high: i32) -> u32 {
     (d.word() & 0x807f_ffff) | (d.between(low, high) as u32) << 23
 }
 
+/// A large number and one whose exponent is lower by 8 to 254, which may be a subnormal number.
+pub fn far_apart(d: &mut Draw) -> [u32; 2] {
+    let high = d.between(8, 254);
+    let low = d.between(0, high - 8);
+    [with_exponent(d, high, high), with_exponent(d, low, low)]
+}
+
 /// A whole number or a half, of up to 25 digits.
 fn half(d: &mut Draw) -> f64 {
     let digits = d.below(25) + 1;

@@ -14,9 +14,6 @@ const USAGE: &str = "usage:
 
 const MALFORMED: u32 = 16;
 
-/// Starts a program that the toolchain built.
-const START: &str = concat!(env!("CARGO_MANIFEST_DIR"), "/start");
-
 /// The sizes of the parts in which the program gets its input: about a field, a line, a buffer, and in between.
 const SIZES: [usize; 18] = [1, 65_536, 45, 46, 47, 3, 4_095, 4_096, 4_097, 7, 91, 92, 93, 30_011, 65_535, 1, 65_537, 200_003];
 
@@ -46,7 +43,7 @@ fn run(words: &[&str]) -> Outcome {
     let mut tally = Tally::default();
     let equal = match env::var_os("BENCH") {
         Some(program) => {
-            let comparison = compare(Command::new(START).arg(program), &mut tally, pieces, &SIZES)?;
+            let comparison = compare(&mut Command::new(program), &mut tally, pieces, &SIZES)?;
             print!("{tally}");
             tell(&comparison)
         }
