@@ -12,6 +12,9 @@ float bench_trunc(float x);
 float bench_floor(float x);
 float bench_round(float x);
 
+/* The exact remainder of a by b, of the quotient cut toward zero, with the sign of a: what C's fmodf and Rust's % give. */
+float bench_rem(float a, float b);
+
 /* Runs a list of commands from a fresh sheet. A command is seven numbers: number, t, a, b and the bits of u, v and w; an answer six: refusal, row, kind and three values. Gives 0;
    or 9 where `lent` is less than six for each whole command, or 1 where the list ends within a command, and then nothing is run or written. */
 uint32_t bench_run(const uint32_t *commands, size_t count, uint32_t *answers, size_t lent);

@@ -1,5 +1,7 @@
 // The bench for Rust and C: functions on plain numbers, in a static library.
 ghost use mathlib.Core.Path.{_≡_};
+ghost use lib.Ieee as Ieee;
+ghost use lib.Ieee.{binary32};
 ghost use Rattle.scalar.specs.Root as Root;
 ghost use Rattle.scalar.specs.Fused as Fused;
 ghost use Rattle.scalar.specs.Integral as Integral;
@@ -39,6 +41,13 @@ pub extern "C" fn bench_round(x: f32) -> f32
     ensures { λ r. ⌜ r ≡ Integral.roundEven x ⌝ }
 {
     scalar::integral::round(x)
+}
+
+#[no_mangle]
+pub extern "C" fn bench_rem(a: f32, b: f32) -> f32
+    ensures { λ r. ⌜ r ≡ Ieee.rem binary32 a b ⌝ }
+{
+    scalar::euclid::rem(a, b)
 }
 
 // Runs a list of commands from a fresh sheet, seven numbers each, and writes their answers, six numbers each. Gives 0, or the number by which the list is

@@ -3,29 +3,19 @@ use mathlib.Core.Path.{_≡_, refl, sym, ap, _∙_, subst}
 use mathlib.Core.Bool.{Bool}
 use mathlib.Core.List.{[], _∷_}
 use Prim.Native.Nat.{ℕ, _+_, _*_, _^_, _<_}
-use native.Mathlib.Nat.{mul-one, mul-assoc, mul-right-comm, eq-of-mul-eq-mul-right, mul-pos}
+use native.Mathlib.Nat.{mul-one, mul-assoc, mul-pos}
 use lib.Dec.{T}
 use lib.Pow.{pow-pos, pow-add}
-use lib.Ieee.{Float, nan, inf, fin, Format, low, up, down, unlike, round, mul, fits}
-use lib.Ieee.Exact.{HasValue, round-exact}
+use lib.Ieee.{Float, Format, low, unlike, round, mul, fits}
+use lib.Ieee.Exact.{round-exact}
 use lib.Ieee.Scale.{overflow, finite}
 use Rattle.laws.specs.Exact.{negative}
 use Rattle.laws.proofs.Ring.{var, _⊗_}
 use Rattle.laws.proofs.RingNat.{ring}
-use Rattle.laws.proofs.ValueLaws.{Value, value-finite}
+use Rattle.laws.proofs.ValueLaws.{Value, value-finite, value-same}
 use Rattle.laws.proofs.SizeLaws.{Digits, digits, size-of-value, size-below}
 use Rattle.laws.proofs.GridErrorLaws.{unit}
 use Rattle.laws.proofs.OperationLaws.{mul-at}
-
--- from one fraction to another of the same size
-rescale : (x : Float) (s : Bool) (a c b d : ℕ) → 0 < c → b * c ≡ a * d → HasValue x s a c → HasValue x s b d
-rescale nan s a c b d C h v = v
-rescale (inf t) s a c b d C h v = v
-rescale (fin t m e) s a c b d C h v = (
-  v .0,
-  eq-of-mul-eq-mul-right c C (m * up e * d) (b * down e)
-      (mul-right-comm (m * up e) d c ∙ ap (λ (x : ℕ). x * d) (v .1) ∙ mul-right-comm a (down e) d ∙ ap (λ (x : ℕ). x * down e) (sym h) ∙ mul-right-comm b c (down e)),
-)
 
 module _ (f : Format) (u x : Float) (t s : Bool) (n : ℕ) (F : T (fits f x)) (k : Value f x s n) where
   number : T (finite x)
@@ -43,7 +33,7 @@ module _ (f : Format) (u x : Float) (t s : Bool) (n : ℕ) (F : T (fits f x)) (k
       let L : 0 < l * l = mul-pos (pow-pos (low f)) (pow-pos (low f)) in
       let e : n * 2 ^ g ≡ w .kept * 2 ^ (w .zeros + g) = ap (λ (y : ℕ). y * 2 ^ g) digits-are ∙ mul-assoc (w .kept) (2 ^ w .zeros) (2 ^ g) ∙ ap (λ (y : ℕ). w .kept * y) (sym (pow-add 2 (w .zeros) g)) in
       subst (λ (v : Float). Value f v (unlike t s) (n * 2 ^ g)) (sym (mul-at f u x t s (l * 2 ^ g) n h k))
-      (rescale (round f (unlike t s) (l * 2 ^ g * n) (l * l)) (unlike t s) (l * 2 ^ g * n) (l * l) (n * 2 ^ g) l L (sym (turn n l (2 ^ g)))
+      (value-same (round f (unlike t s) (l * 2 ^ g * n) (l * l)) (unlike t s) (l * 2 ^ g * n) (l * l) (n * 2 ^ g) l L (turn n l (2 ^ g))
       (round-exact f (unlike t s) (l * 2 ^ g * n) (l * l) (w .kept) (w .zeros + g) L (w .few) (subst (λ (y : ℕ). y < overflow f) e under)
       (turn n l (2 ^ g) ∙ ap (λ (y : ℕ). y * (l * l)) e)))
     where

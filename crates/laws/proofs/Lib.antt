@@ -32,3 +32,4 @@ pub mod ExactProducts
 pub mod RoundedOperations
 pub mod ValueOrderLaws
 pub mod BoolLaws
+pub mod WholeLaws

@@ -2,7 +2,7 @@
 use mathlib.Core.Path.{_≡_, refl, sym, ap, _∙_, subst}
 use mathlib.Core.Bool.{Bool, true, false, not, cond}
 use Prim.Native.Nat.{ℕ, suc, _+_, _-_, _*_, _/_, _^_, _≤_, _<_}
-use native.Mathlib.Nat.{le-refl, le-trans, le-of-eq, lt-of-lt-of-le, lt-of-le-of-lt, le-antisymm, lt-of-not-le, not-le-of-lt, mul-one, suc-add, add-mul, mul-assoc, mul-div-cancel, mul-lt-mul-of-pos-right, mul-le-mul-right}
+use native.Mathlib.Nat.{le-refl, le-trans, le-of-eq, lt-of-lt-of-le, lt-of-le-of-lt, le-antisymm, lt-of-not-le, not-le-of-lt, mul-one, suc-add, add-mul, mul-assoc, mul-right-comm, mul-div-cancel, mul-lt-mul-of-pos-right, mul-le-mul-right, eq-of-mul-eq-mul-right}
 use native.Mathlib.Omega.{arith}
 use lib.Dec.{T, ltb, lit<, ltb→lt, nltb→le, lt→ltb}
 use lib.Pow.{pow-pos, pow-add, pow-mono, pow-lt, shl-shr}
@@ -22,6 +22,16 @@ pub value-finite : (x : Float) (s : Bool) (a c : ℕ) → HasValue x s a c → T
 value-finite nan s a c h = absurd h
 value-finite (inf t) s a c h = absurd h
 value-finite (fin t m e) s a c h = tt
+
+-- the same size, as another fraction
+pub value-same : (x : Float) (s : Bool) (a c b d : ℕ) → 0 < c → a * d ≡ b * c → HasValue x s a c → HasValue x s b d
+value-same nan s a c b d C h v = v
+value-same (inf t) s a c b d C h v = v
+value-same (fin t m e) s a c b d C h v = (
+  v .0,
+  eq-of-mul-eq-mul-right c C (m * up e * d) (b * down e)
+      (mul-right-comm (m * up e) d c ∙ ap (λ (z : ℕ). z * d) (v .1) ∙ mul-right-comm a (down e) d ∙ ap (λ (z : ℕ). z * down e) h ∙ mul-right-comm b c (down e)),
+)
 
 -- ---- the bit pattern of a count N
 abbrev pub pattern : Format → Bool → ℕ → ℕ

@@ -17,14 +17,14 @@ use Rattle.laws.specs.Exact.{negative, sizeIn}
 use Rattle.laws.proofs.BoolLaws.{pos-of-not-zero}
 use Rattle.laws.proofs.ClosestLaws.{closest-best, closest-tie}
 use Rattle.laws.proofs.SizeLaws.{size-of-value, value-of-size}
-use Rattle.laws.proofs.ValueLaws.{value-finite}
+use Rattle.laws.proofs.ValueLaws.{value-finite, value-same}
 use Rattle.scalar.specs.Integral.{integral, cut, lower, even, trunc, floor, roundEven}
 use Rattle.scalar.specs.IntegralMeaning.{Whole, Truncated, Floored, RoundedEven}
 use Rattle.scalar.specs.Parts.{Split}
 use Rattle.scalar.proofs.BitsLaws.{PartsOf, parts-of}
 use Rattle.scalar.proofs.PartsLaws.{value-of-parts}
 use Rattle.scalar.proofs.FitsLaws.{integral-fits}
-use Rattle.scalar.proofs.IntegralLaws.{Rule, value-same, integral-at, whole-stays}
+use Rattle.scalar.proofs.IntegralLaws.{Rule, integral-at, whole-stays}
 use Rattle.scalar.proofs.IntegralRules.{cut-rule, lower-rule, even-rule}
 
 -- a rule goes at most one above the quotient

@@ -3,21 +3,40 @@ ghost use mathlib.Core.Path.{_≡_};
 ghost use lib.Ieee as Ieee;
 ghost use lib.Ieee.{binary32};
 ghost use Rattle.scalar.specs.Euclid as Euclid;
+use crate::bits::Parts;
+use crate::bits::decode;
 use crate::integral::trunc;
+use crate::remainder::pack_exact;
+use crate::remainder::rest;
 use crate::sign::abs;
 
-// The operator `%`.
+// The operator `%`: m * 2 ^ (k - d) modulo n, times 2 ^ d. Where k < d, b has 24 bits and is larger than a (rem-smaller, rem-rest).
 pub fn rem(a: f32, b: f32) -> f32
     ensures { λ r. ⌜ r ≡ Ieee.rem binary32 a b ⌝ }
 {
-    a % b
+    let Parts::Fin(s, m, k) = decode(a) else {
+        return 0.0 / 0.0;
+    };
+    match decode(b) {
+        Parts::Nan => b,
+        Parts::Inf(_) => a,
+        Parts::Fin(_, n, d) => {
+            if n == 0 {
+                return 0.0 / 0.0;
+            }
+            if k < d {
+                return a;
+            }
+            pack_exact(s, rest(m, k - d, n), d)
+        }
+    }
 }
 
 pub fn div_euclid(a: f32, b: f32) -> f32
     ensures { λ r. ⌜ r ≡ Euclid.divEuclid a b ⌝ }
 {
     let q = trunc(a / b);
-    if a % b < 0.0 {
+    if rem(a, b) < 0.0 {
         return if b > 0.0 { q - 1.0 } else { q + 1.0 };
     }
     q
@@ -26,6 +45,6 @@ pub fn div_euclid(a: f32, b: f32) -> f32
 pub fn rem_euclid(a: f32, b: f32) -> f32
     ensures { λ r. ⌜ r ≡ Euclid.remEuclid a b ⌝ }
 {
-    let r = a % b;
+    let r = rem(a, b);
     if r < 0.0 { r + abs(b) } else { r }
 }

@@ -1,70 +1,77 @@
-// Whole results: toward zero, downward, to the nearest.
+// Whole results: toward zero, downward, to the nearest. Below 2 ^ 23 in size, a + 2 ^ 23 is rounded at the unit's place, ties to even, and the
+// difference is exact (near-whole); from 2 ^ 23 on every float is whole (large-stays).
 ghost use mathlib.Core.Path.{_≡_};
-ghost use Prim.Native.Nat.{_^_, _≤_, _<_};
+ghost use mathlib.Core.Bool.{not, cond};
+ghost use lib.Dec.{T};
 ghost use lib.Ieee as Ieee;
-ghost use lib.Ieee.{binary32};
 ghost use Rattle.scalar.specs.Integral as Integral;
-ghost use Rattle.scalar.specs.Parts.{Places};
-use crate::bits::Parts;
-use crate::bits::decode;
+ghost use Rattle.scalar.specs.Sign as Sign;
+use crate::sign::copysign_bits;
+
+// 2 ^ 23: from here on a float has no bit below 1.
+const WHOLE: f32 = 8388608.0;
 
 pub fn trunc(x: f32) -> f32
     ensures { λ r. ⌜ r ≡ Integral.trunc x ⌝ }
 {
-    let Parts::Fin(s, q, k) = decode(x) else {
-        return x;
-    };
-    if k >= 149 {
+    if x != x {
         return x;
     }
-    let d = places(k);
-    signed(s, q >> d)
+    let a = size(x);
+    if a < WHOLE {
+        let w = (a + WHOLE) - WHOLE;
+        return signed(pick(a < w, w - 1.0, w), x);
+    }
+    x
 }
 
 pub fn floor(x: f32) -> f32
     ensures { λ r. ⌜ r ≡ Integral.floor x ⌝ }
 {
-    let Parts::Fin(s, q, k) = decode(x) else {
-        return x;
-    };
-    if k >= 149 {
+    if x != x {
         return x;
     }
-    let d = places(k);
-    if s {
-        return signed(true, (q + ((1u32 << d) - 1)) >> d);
+    let a = size(x);
+    if a < WHOLE {
+        let w = signed((a + WHOLE) - WHOLE, x);
+        return pick(x < w, w - 1.0, w);
     }
-    signed(false, q >> d)
+    x
 }
 
 // To the nearest whole number, a tie to the even one.
 pub fn round(x: f32) -> f32
     ensures { λ r. ⌜ r ≡ Integral.roundEven x ⌝ }
 {
-    let Parts::Fin(s, q, k) = decode(x) else {
-        return x;
-    };
-    if k >= 149 {
+    if x != x {
         return x;
     }
-    let d = places(k);
-    let odd = (q >> d) % 2;
-    signed(s, (q + ((1u32 << (d - 1)) - 1) + odd) >> d)
+    let a = size(x);
+    if a < WHOLE {
+        return signed((a + WHOLE) - WHOLE, x);
+    }
+    x
 }
 
-// How many digits of a significand lie below 1. Past 25 of them no whole result changes.
-fn places(k: u32) -> u32
-    requires { ⌜ k < 149 ⌝ }
-    ensures { λ d. ⌜ Places k d ⌝ }
+// The size of a number.
+fn size(x: f32) -> f32
+    requires { ⌜ T (not (Ieee.isNan x)) ⌝ }
+    ensures { λ r. ⌜ r ≡ Sign.abs x ⌝ }
 {
-    if k < 124 { 25 } else { 149 - k }
+    f32::from_bits(f32::to_bits(x) % 0x8000_0000)
 }
 
-// The whole number w, with a sign.
-fn signed(s: bool, w: u32) -> f32
-    requires { ⌜ w ≤ 2 ^ 24 ⌝ }
-    ensures { λ r. ⌜ r ≡ Ieee.round binary32 s w 1 ⌝ }
+// The number w with the sign of the number x.
+fn signed(w: f32, x: f32) -> f32
+    requires { ⌜ T (not (Ieee.isNan w)) ⌝ }
+    requires { ⌜ T (not (Ieee.isNan x)) ⌝ }
+    ensures { λ r. ⌜ r ≡ Sign.copysign w x ⌝ }
 {
-    let v = w as f32;
-    if s { -v } else { v }
+    f32::from_bits(copysign_bits(f32::to_bits(w), f32::to_bits(x)))
+}
+
+fn pick(b: bool, x: f32, y: f32) -> f32
+    ensures { λ r. ⌜ r ≡ cond b x y ⌝ }
+{
+    if b { x } else { y }
 }
