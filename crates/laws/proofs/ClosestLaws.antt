@@ -65,3 +65,19 @@ closest-tie n u w U d e =
     tie-even (n / u) u (n % u) (compare (n % u * 2) u) (cmp (n % u * 2) u) (mod-lt n U)
     (subst (λ (m : ℕ). distance (closest n u * u) m * 2 ≡ u) (sym (div-add-mod' n u))
     (halfway n u (closest n u) w (compare (closest n u) w) (cmp (closest n u) w) d (closest-near n u U) e))
+
+-- ---- a multiple of u at most half a step from n is the nearest one, or one of two that are as near
+pub near-of-best : (n u q w : ℕ) → Within (q * u * 2) (n * 2) u → distance (w * u) n ≤ distance (q * u) n → Within (w * u * 2) (n * 2) u
+near-of-best n u q w h l = (omega arith, omega arith)
+
+-- of which only one is even
+pub even-unique : (n u q w : ℕ) → 0 < u → Within (q * u * 2) (n * 2) u → Within (w * u * 2) (n * 2) u → q % 2 ≡ 0 → w % 2 ≡ 0 → q ≡ w
+even-unique n u q w U h k e d = go (compare q w) (cmp q w)
+  where
+    apart : (q w : ℕ) → q % 2 ≡ 0 → w % 2 ≡ 0 → q < w → Within (q * u * 2) (n * 2) u → Within (w * u * 2) (n * 2) u → ⊥
+    apart q w e d l h k = let t : (q + 2) * u ≤ w * u = mul-le-mul-right u (omega arith) in omega (arith, add-mul q 2 u)
+
+    go : (o : Ordering) → Cmp o q w → q ≡ w
+    go Ordering·lt l = absurd (apart q w e d l h k)
+    go Ordering·eq l = l
+    go Ordering·gt l = absurd (apart w q d e l k h)

@@ -1,6 +1,7 @@
 -- What `compare` says of two numbers, as a fact. Assumes nothing.
 use mathlib.Core.Path.{_≡_, refl, subst}
 use mathlib.Core.Bool.{not}
+use mathlib.Core.Logic.{_⊎_, inl, inr}
 use Prim.Native.Nat.{ℕ, _≤_, _<_, compare, Ordering, Ordering·lt, Ordering·eq, Ordering·gt}
 use native.Mathlib.Omega.{arith}
 use lib.Dec.{T, isLe, isEq, leb→le, nleb→lt, eqb→eq, eqb, eqb-refl}
@@ -33,3 +34,12 @@ same-order a b a' b' Ordering·gt Ordering·gt p q f g h = refl
 
 pub same-compare : (a b a' b' : ℕ) → (a < b → a' < b') → (a ≡ b → a' ≡ b') → (b < a → b' < a') → compare a b ≡ compare a' b'
 same-compare a b a' b' f g h = same-order a b a' b' (compare a b) (compare a' b') (cmp a b) (cmp a' b') f g h
+
+-- two numbers are equal or not
+pub equal-or-not : (a b : ℕ) → (a ≡ b) ⊎ (a ≡ b → ⊥)
+equal-or-not a b = go (compare a b) (cmp a b)
+  where
+    go : (o : Ordering) → Cmp o a b → (a ≡ b) ⊎ (a ≡ b → ⊥)
+    go Ordering·lt h = inr (λ (e : a ≡ b). omega arith)
+    go Ordering·eq h = inl h
+    go Ordering·gt h = inr (λ (e : a ≡ b). omega arith)

@@ -90,16 +90,19 @@ module _ (f : Format) (a c : ℕ) (C : 0 < c) where
     best : distance (grid f a c * c) n ≤ distance (sizeIn f y * c) n
     best = elim beats [ inl l ↦ le-of-lt l | inr w ↦ le-trans (multiple-best (w .0)) (le-of-eq (ap (λ (N : ℕ). distance (N * c) n) (sym (w .1)))) ]
 
-    tie : (grid f a c ≡ sizeIn f y → ⊥) → distance (grid f a c * c) n ≡ distance (sizeIn f y * c) n → kept (prec f) n c % 2 ≡ 0
+    -- what is as near is such a multiple
+    pub grid-level : distance (grid f a c * c) (a * 2 ^ low f) ≡ distance (sizeIn f y * c) (a * 2 ^ low f) → (w : ℕ) × (sizeIn f y ≡ w * 2 ^ drop (prec f) (a * 2 ^ low f) c)
     unfolding k n
-    tie d e =
-        elim beats [
-          | inl l ↦ absurd (differ (distance (grid f a c * c) n) (distance (sizeIn f y * c) n) e l)
-          | inr w ↦ multiple-tie (w .0) (λ (g : kept (prec f) n c ≡ w .0). d (ap (λ (x : ℕ). x * 2 ^ k) g ∙ sym (w .1))) (e ∙ ap (λ (N : ℕ). distance (N * c) n) (w .1))
-        ]
+    grid-level e = elim beats [ inl l ↦ absurd (differ (distance (grid f a c * c) n) (distance (sizeIn f y * c) n) e l) | inr w ↦ w ]
       where
         differ : (x y : ℕ) → x ≡ y → x < y → ⊥
         differ x y e l = omega arith
+
+    tie : (grid f a c ≡ sizeIn f y → ⊥) → distance (grid f a c * c) n ≡ distance (sizeIn f y * c) n → kept (prec f) n c % 2 ≡ 0
+    unfolding k n
+    tie d e =
+        let w = grid-level e in
+        multiple-tie (w .0) (λ (g : kept (prec f) n c ≡ w .0). d (ap (λ (x : ℕ). x * 2 ^ k) g ∙ sym (w .1))) (e ∙ ap (λ (N : ℕ). distance (N * c) n) (w .1))
 
     -- ---- nor is a value of either sign: b says whether the signs are the same
     pub grid-best : (b : Bool) → distance (grid f a c * c) (a * 2 ^ low f) ≤ cond b (distance (sizeIn f y * c) (a * 2 ^ low f)) (sizeIn f y * c + a * 2 ^ low f)

@@ -2,7 +2,7 @@
 use mathlib.Core.Path.{_≡_, sym, ap, _∙_, subst}
 use mathlib.Core.Logic.{inl, inr}
 use Prim.Native.Nat.{ℕ, zero, suc, _+_, _-_, _*_, _/_, _%_, _^_, _≤_, _<_, compare}
-use native.Mathlib.Nat.{eq-zero-or-pos, lt-irrefl, le-trans, le-of-eq, le-of-suc-le-suc, le-add-left, lt-of-not-le, not-le-of-lt, eq-or-lt-of-le, suc-add, add-suc, suc-mul, mul-assoc, mul-comm, mul-left-comm, mul-right-comm, mul-le-mul-right, mul-pos, mul-mod-left, lt-of-mul-lt-mul-right, pow-suc, le-div-iff-mul-le, div-lt-iff-lt-mul, div-div-eq-div-mul}
+use native.Mathlib.Nat.{eq-zero-or-pos, lt-irrefl, le-trans, le-of-eq, le-of-suc-le-suc, le-add-left, lt-of-not-le, eq-or-lt-of-le, suc-add, add-suc, suc-mul, mul-assoc, mul-comm, mul-left-comm, mul-right-comm, mul-le-mul-right, mul-pos, mul-mod-left, lt-of-mul-lt-mul-right, pow-suc, le-div-iff-mul-le, div-lt-iff-lt-mul, div-div-eq-div-mul}
 use native.Mathlib.Omega.{arith}
 use lib.Pow.{pow-add, pow-pos, pow-mono}
 use lib.Ieee.{size}
@@ -10,7 +10,7 @@ use lib.Ieee.Digits.{size-le, size-reaches}
 use lib.Ieee.Fits.{kept-lt, nearest-le}
 use lib.Ieee.Nearest.{nearest-ge}
 use lib.Ieee.Order.{drop, kept}
-use Rattle.laws.specs.Within.{distance}
+use Rattle.laws.specs.Within.{distance, Within}
 use Rattle.laws.proofs.ClosestLaws.{closest-near, closest-tie}
 use Rattle.laws.proofs.ValueLaws.{size-more}
 
@@ -36,8 +36,28 @@ kept-ge p n c P C K =
     let u = c * 2 ^ drop p n c in
     le-trans (le-div-iff-mul-le (mul-pos C (pow-pos (drop p n c))) .1 (whole-reaches p n c P C K)) (nearest-ge (n / u) (compare (n % u * 2) u))
 
-pub kept-few : (p n c : ℕ) → 0 < p → 0 < c → kept p n c < 2 ^ (p - 1) → drop p n c ≡ 0
-kept-few p n c P C h = elim (eq-zero-or-pos (drop p n c)) [ inl z ↦ z | inr z ↦ absurd (not-le-of-lt h (kept-ge p n c P C z)) ]
+-- ---- so is any w that is at most half a step from n / c, as the kept one is
+module _ (p n c w : ℕ) (C : 0 < c) (near : Within (w * (c * 2 ^ drop p n c) * 2) (n * 2) (c * 2 ^ drop p n c)) where
+  u : ℕ
+  u = c * 2 ^ drop p n c
+
+  U : 0 < u
+  unfolding u
+  U = mul-pos C (pow-pos (drop p n c))
+
+  pub near-le : w ≤ 2 ^ p
+  unfolding u
+  near-le = le-of-suc-le-suc (lt-of-not-le (past (2 ^ p) u (div-lt-iff-lt-mul U .0 (subst (λ (x : ℕ). x < 2 ^ p) (div-div-eq-div-mul n c (2 ^ drop p n c)) (kept-lt p (n / c)))) (near .0)))
+    where
+      past : (b u : ℕ) → n < b * u → w * u * 2 ≤ n * 2 + u → suc b ≤ w → ⊥
+      past b u l h g = let t = mul-le-mul-right u g in omega (arith, suc-mul b u)
+
+  pub near-few : 0 < p → w < 2 ^ (p - 1) → drop p n c ≡ 0
+  unfolding u
+  near-few P h = elim (eq-zero-or-pos (drop p n c)) [ inl z ↦ z | inr z ↦ absurd (short (2 ^ (p - 1)) u U (whole-reaches p n c P C z) (near .1) h) ]
+    where
+      short : (b u : ℕ) → 0 < u → b * u ≤ n → n * 2 ≤ w * u * 2 + u → suc w ≤ b → ⊥
+      short b u U l h g = let t = mul-le-mul-right u g in omega (arith, suc-mul w u)
 
 -- ---- the result is below 2 ^ (p + 1 + e) up to half a step before it, a step being 2 ^ (e + 1)
 pub kept-under : (p e n c : ℕ) → 0 < c → n + 2 ^ e * c < 2 ^ (suc p + e) * c → kept p n c * 2 ^ drop p n c < 2 ^ (suc p + e)

@@ -21,6 +21,7 @@ pub mod KeptLaws
 pub mod GridLaws
 pub mod OverflowLaws
 pub mod RoundNearest
+pub mod RoundDetermined
 pub mod WholeRootLaws
 pub mod Examples
 pub mod JamLaws

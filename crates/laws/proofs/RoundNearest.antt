@@ -3,9 +3,10 @@ use mathlib.Core.Path.{_≡_, refl, sym, ap, _∙_, subst}
 use mathlib.Core.Bool.{Bool, true, false, not, Bool·beq, cond}
 use mathlib.Core.Logic.{inl, inr}
 use Prim.Native.Nat.{ℕ, _+_, _*_, _/_, _%_, _^_, _≤_, _<_}
-use native.Mathlib.Nat.{mul-assoc}
+use native.Mathlib.Nat.{mul-assoc, mul-pos}
 use native.Mathlib.Omega.{arith}
 use lib.Dec.{T}
+use lib.Pow.{pow-pos}
 use lib.Ieee.{Float, Format, binary32, binary64, prec, low, hid, top, round, fits, isNan, toBits}
 use lib.Ieee.Fits.{two, two-le-pos, round-fits}
 use lib.Ieee.Order.{drop, kept}
@@ -14,15 +15,16 @@ use Rattle.laws.specs.Within.{distance}
 use Rattle.laws.specs.Exact.{negative, sizeIn}
 use Rattle.laws.specs.RoundsTo.{gap, off, RoundsTo}
 use Rattle.laws.proofs.BoolLaws.{beq-same}
+use Rattle.laws.proofs.ClosestLaws.{closest-near}
 use Rattle.laws.proofs.FiniteLaws.{finite-number}
-use Rattle.laws.proofs.KeptLaws.{kept-le, kept-few}
+use Rattle.laws.proofs.KeptLaws.{kept-le, near-few}
 use Rattle.laws.proofs.OverflowLaws.{round-finite, round-infinite, round-either}
 use Rattle.laws.proofs.RoundingError.{finite-round}
-use Rattle.laws.proofs.ValueLaws.{toBits-value, pattern-is}
+use Rattle.laws.proofs.ValueLaws.{Value, toBits-value, pattern-is}
 use Rattle.laws.proofs.SizeLaws.{size-of-value, size-unique}
 use Rattle.laws.proofs.GridLaws.{grid-best, grid-tie}
 
--- ---- the last digit of the bits is that of the kept number
+-- ---- the last bit of a float's pattern is that of the number kept
 parity : (t k h q : ℕ) → t % 2 ≡ 0 → h % 2 ≡ 0 → (t + k * h + q) % 2 ≡ q % 2
 parity t k h q e d =
     let g : k * h ≡ k * (h / 2) * 2 = ap (λ (x : ℕ). k * x) (halves h d) ∙ sym (mul-assoc k (h / 2) 2) in
@@ -41,10 +43,18 @@ sign-even binary32 false = refl
 sign-even binary64 true = refl
 sign-even binary64 false = refl
 
--- ---- signs
+pub last-bit : (f : Format) (x : Float) (s : Bool) (q k : ℕ) → Value f x s (q * 2 ^ k) → q ≤ 2 ^ prec f → (q < hid f → k ≡ 0) → toBits f x % 2 ≡ q % 2
+last-bit f x s q k v l z =
+    ap (λ (n : ℕ). n % 2) (toBits-value f x s (q * 2 ^ k) v ∙ pattern-is f s q k l z)
+    ∙ parity (cond s (top f) 0) k (hid f) q (sign-even f s) (hid-even f)
+
+-- ---- how far off a float of the fraction's sign is
 gap-same : (s : Bool) (x y : ℕ) → gap s x s y ≡ distance x y
 gap-same true x y = refl
 gap-same false x y = refl
+
+pub off-same : (f : Format) (x : Float) (s : Bool) (a c : ℕ) → negative x ≡ s → off f x s a c ≡ distance (sizeIn f x * c) (a * 2 ^ low f)
+off-same f x s a c e = ap (λ (b : Bool). gap b (sizeIn f x * c) s (a * 2 ^ low f)) e ∙ gap-same s (sizeIn f x * c) (a * 2 ^ low f)
 
 module _ (f : Format) (s : Bool) (a c : ℕ) (C : 0 < c) where
   n : ℕ
@@ -64,23 +74,22 @@ module _ (f : Format) (s : Bool) (a c : ℕ) (C : 0 < c) where
   unfolding r negative
   sign-is = elim (round-either f s a c C) [ inl t ↦ size-of-value f r s (grid f a c) (finite-round f s a c t) .1 | inr e ↦ ap negative e ]
 
-  off-is : T (finite r) → off f r s a c ≡ distance (grid f a c * c) n
-  unfolding r n
-  off-is t =
-      let v = size-of-value f r s (grid f a c) (finite-round f s a c t) in
-      ap (λ (b : Bool). gap b (sizeIn f r * c) s n) (v .1) ∙ gap-same s (sizeIn f r * c) n ∙ ap (λ (N : ℕ). distance (N * c) n) (v .0)
+  pub round-off : T (finite (round f s a c)) → off f (round f s a c) s a c ≡ distance (grid f a c * c) (a * 2 ^ low f)
+  unfolding r
+  round-off t =
+      off-same f r s a c sign-is ∙ ap (λ (N : ℕ). distance (N * c) (a * 2 ^ low f)) (size-of-value f r s (grid f a c) (finite-round f s a c t) .0)
 
   same : T (finite r) → (y : Float) → T (fits f y) → T (finite y) → T (Bool·beq (negative y) s) → grid f a c ≡ sizeIn f y → r ≡ y
   unfolding r
   same t y h u b g =
       size-unique f r y (round-fits f s a c) h t u (sign-is ∙ sym (beq-same (negative y) s b)) (size-of-value f r s (grid f a c) (finite-round f s a c t) .0 ∙ g)
 
-  last-digit : T (finite r) → toBits f r % 2 ≡ q % 2
+  last-kept : T (finite r) → toBits f r % 2 ≡ q % 2
   unfolding r q n
-  last-digit t =
+  last-kept t =
       let k = drop (prec f) n c in
-      ap (λ (x : ℕ). x % 2) (toBits-value f r s (grid f a c) (finite-round f s a c t) ∙ pattern-is f s q k (kept-le (prec f) n c) (kept-few (prec f) n c (two-le-pos (prec f) (two f)) C))
-      ∙ parity (cond s (top f) 0) k (hid f) q (sign-even f s) (hid-even f)
+      let near = closest-near n (c * 2 ^ k) (mul-pos C (pow-pos k)) in
+      last-bit f r s q k (finite-round f s a c t) (kept-le (prec f) n c) (near-few (prec f) n c q C near (two-le-pos (prec f) (two f)))
 
   pub round-nearest : RoundsTo f s a c (round f s a c)
   unfolding r q n
@@ -90,6 +99,6 @@ module _ (f : Format) (s : Bool) (a c : ℕ) (C : 0 < c) where
     sign = sign-is;
     below = round-finite f s a c C;
     beyond = round-infinite f s a c C;
-    nearest = λ t y h u. subst (λ (x : ℕ). x ≤ off f y s a c) (sym (off-is t)) (grid-best f a c C y h u (Bool·beq (negative y) s));
-    even = λ t y h u e d. last-digit t ∙ grid-tie f a c C y h u (Bool·beq (negative y) s) (λ b g. d (same t y h u b g)) (sym (off-is t) ∙ e);
+    nearest = λ t y h u. subst (λ (x : ℕ). x ≤ off f y s a c) (sym (round-off t)) (grid-best f a c C y h u (Bool·beq (negative y) s));
+    even = λ t y h u e d. last-kept t ∙ grid-tie f a c C y h u (Bool·beq (negative y) s) (λ b g. d (same t y h u b g)) (sym (round-off t) ∙ e);
   }

@@ -2,9 +2,10 @@
 use mathlib.Core.Path.{_≡_, refl, sym, ap, _∙_}
 use mathlib.Core.Bool.{Bool, true, false, not}
 use mathlib.Core.List.{[], _∷_}
+use mathlib.Core.Logic.{_⊎_, inl, inr}
 use Prim.Native.Nat.{ℕ, zero, suc, _+_, _-_, _*_, _≤_, _<_}
 use native.Mathlib.Omega.{arith}
-use lib.IntN.{ℤ, pos, negℤ, natAbs, _+ℤ_, _*ℤ_, pos-+ℤ-pos, pos-*ℤ-pos, negℤ-+ℤ, pos-ne-negsuc}
+use lib.IntN.{ℤ, pos, negsuc, negℤ, natAbs, _+ℤ_, _*ℤ_, pos-+ℤ-pos, pos-*ℤ-pos, negℤ-+ℤ, pos-ne-negsuc}
 use lib.Ieee.{unlike}
 use Rattle.laws.specs.Exact.{signed}
 use Rattle.laws.proofs.RingInt.{var, _⊕_, _⊗_, ⊖_, ringℤ}
@@ -53,3 +54,9 @@ signed-unique s t n m h e = (signs s t n m h e, sizes)
         pos-suc : (n : ℕ) → suc n ≡ 0 → ⊥
         pos-suc n e = omega arith
     signs false true (suc n) (suc m) h e = absurd (pos-ne-negsuc (suc n) m e)
+
+-- ---- and each number but zero has them
+pub zero-or-signed : (z : ℤ) → (z ≡ pos 0) ⊎ ((s : Bool) × (n : ℕ) × (0 < n) × (signed s n ≡ z))
+zero-or-signed (pos zero) = inl refl
+zero-or-signed (pos (suc n)) = inr (false, suc n, omega arith, refl)
+zero-or-signed (negsuc n) = inr (true, suc n, omega arith, refl)

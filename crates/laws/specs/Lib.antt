@@ -2,5 +2,6 @@
 pub mod Within
 pub mod Exact
 pub mod RoundsTo
+pub mod Determines
 pub mod Jam
 pub mod WholeRoot

@@ -17,12 +17,13 @@ use Rattle.laws.specs.Exact.{negative, sizeIn}
 use Rattle.laws.proofs.BoolLaws.{pos-of-not-zero}
 use Rattle.laws.proofs.ClosestLaws.{closest-best, closest-tie}
 use Rattle.laws.proofs.SizeLaws.{size-of-value, value-of-size}
-use Rattle.laws.proofs.ValueLaws.{value-same}
+use Rattle.laws.proofs.ValueLaws.{value-finite, value-same}
 use Rattle.scalar.specs.Integral.{integral, cut, lower, even, trunc, floor, roundEven}
 use Rattle.scalar.specs.IntegralMeaning.{Whole, Truncated, Floored, RoundedEven}
 use Rattle.scalar.specs.Parts.{Split}
 use Rattle.scalar.proofs.BitsLaws.{PartsOf, parts-of}
 use Rattle.scalar.proofs.PartsLaws.{value-of-parts}
+use Rattle.scalar.proofs.FitsLaws.{integral-fits}
 use Rattle.scalar.proofs.IntegralLaws.{Rule, integral-at, whole-stays}
 use Rattle.scalar.proofs.IntegralRules.{cut-rule, lower-rule, even-rule}
 
@@ -82,7 +83,9 @@ module _ (by : Bool → ℕ → ℕ → ℕ) (rule : Rule by) (near : Near by) (
 
   integral-whole : Whole x (integral by x) (by (negative x) (sizeIn binary32 x) (2 ^ 149))
   unfolding w n
-  integral-whole = let v = size-of-value binary32 (integral by x) (negative x) (w * 2 ^ 149) value in record { sign = v .1; size = v .0 }
+  integral-whole =
+      let v = size-of-value binary32 (integral by x) (negative x) (w * 2 ^ 149) value in
+      record { value = integral-fits by x; number = value-finite (integral by x) (negative x) (w * 2 ^ 149) (2 ^ 149) value; sign = v .1; size = v .0 }
     where
       p : PartsOf x
       p = parts-of x fx tx

@@ -2,12 +2,16 @@
 use mathlib.Core.Path.{_≡_}
 use mathlib.Core.Bool.{true, false}
 use Prim.Native.Nat.{ℕ, _+_, _*_, _%_, _^_, _≤_, _<_}
-use lib.Ieee.{Float, binary32}
+use lib.Dec.{T}
+use lib.Ieee.{Float, binary32, fits}
+use lib.Ieee.Scale.{finite}
 use Rattle.laws.specs.Exact.{negative, sizeIn}
 use Rattle.laws.specs.Within.{distance}
 
--- r is the whole number w with the sign of x: exactly, and a zero keeps the sign
+-- r is the whole number w with the sign of x: a finite f32, exactly w, and a zero keeps the sign
 pub record Whole (x r : Float) (w : ℕ) : Type 0 where
+  pub value : T (fits binary32 r)
+  pub number : T (finite r)
   pub sign : negative r ≡ negative x
   pub size : sizeIn binary32 r ≡ w * 2 ^ 149
 

@@ -9,6 +9,7 @@ pub mod Integral
 pub mod IntegralMeaning
 pub mod Euclid
 pub mod RemainderMeaning
+pub mod Determined
 pub mod Acos
 pub mod Parts
 pub mod Corners

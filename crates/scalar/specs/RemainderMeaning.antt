@@ -2,10 +2,15 @@
 -- quotient cut toward zero, with the dividend's sign").
 use mathlib.Core.Path.{_≡_}
 use Prim.Native.Nat.{ℕ, _+_, _*_, _<_}
-use lib.Ieee.{Float, binary32}
+use lib.Dec.{T}
+use lib.Ieee.{Float, binary32, fits}
+use lib.Ieee.Scale.{finite}
 use Rattle.laws.specs.Exact.{negative, sizeIn}
 
 pub record Remainder (a b r : Float) : Type 0 where
+  -- a finite f32
+  pub value : T (fits binary32 r)
+  pub number : T (finite r)
   pub quotient : ℕ
   -- exact: nothing is rounded
   pub exact : sizeIn binary32 a ≡ quotient * sizeIn binary32 b + sizeIn binary32 r

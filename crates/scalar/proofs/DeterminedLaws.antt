@@ -1,0 +1,112 @@
+-- Each meaning of this crate determines its answer: a finite f32 is told by its sign and size. Assumes nothing.
+use mathlib.Core.Path.{_≡_, refl, sym, ap, _∙_}
+use mathlib.Core.Bool.{Bool, true, false}
+use mathlib.Core.Logic.{inl, inr}
+use Prim.Native.Nat.{ℕ, _+_, _*_, _%_, _^_, _≤_, _<_, compare, Ordering, Ordering·lt, Ordering·eq, Ordering·gt}
+use native.Mathlib.Nat.{le-antisymm, lt-of-mul-lt-mul-right, add-comm, add-mul}
+use native.Mathlib.Omega.{arith}
+use lib.Arith.{digits-mod}
+use lib.Pow.{pow-pos}
+use lib.Ieee.{Float, binary32}
+use lib.Ieee.Nearest.{closest}
+use Rattle.laws.specs.Within.{distance, Within}
+use Rattle.laws.specs.Exact.{negative, sizeIn}
+use Rattle.laws.specs.Determines.{Determines}
+use Rattle.laws.proofs.CompareLaws.{Cmp, cmp, equal-or-not}
+use Rattle.laws.proofs.ClosestLaws.{closest-near, near-of-best, even-unique}
+use Rattle.laws.proofs.SignedLaws.{zero-or-signed}
+use Rattle.laws.proofs.SizeLaws.{size-unique}
+use Rattle.laws.proofs.RoundDetermined.{rounds-to-determines}
+use Rattle.scalar.specs.RootMeaning.{NearestRoot, radicand}
+use Rattle.scalar.specs.FusedMeaning.{RoundedOnce, exactSum}
+use Rattle.scalar.specs.IntegralMeaning.{Whole, Truncated, Floored, RoundedEven}
+use Rattle.scalar.specs.RemainderMeaning.{Remainder}
+use Rattle.scalar.specs.Determined.{Determined}
+
+-- ---- the root: the middle of two sizes would be on both sides of it
+root-determines : (x : Float) → Determines (NearestRoot x)
+root-determines x r t m l = size-unique binary32 r t (m .value) (l .value) (m .number) (l .number) (m .sign ∙ sym (l .sign)) (go (compare n k) (cmp n k))
+  where
+    n : ℕ
+    n = sizeIn binary32 r
+
+    k : ℕ
+    k = sizeIn binary32 t
+
+    both-sides : (n k z : ℕ) → z < (n + k) * (n + k) → (k + n) * (k + n) < z → ⊥
+    both-sides n k z h g = let e : (n + k) * (n + k) ≡ (k + n) * (k + n) = ap (λ (i : ℕ). i * i) (add-comm n k) in omega arith
+
+    go : (o : Ordering) → Cmp o n k → n ≡ k
+    go Ordering·lt h = absurd (both-sides n k (4 * radicand x) (m .upper t (l .value) h) (l .lower r (m .value) h))
+    go Ordering·eq h = h
+    go Ordering·gt h = absurd (both-sides k n (4 * radicand x) (l .upper r (m .value) h) (m .lower t (l .value) h))
+
+-- ---- the fused product: the exact sum is zero, or has a sign and a size that are rounded
+fused-determines : (a b c : Float) → Determines (RoundedOnce a b c)
+fused-determines a b c r t m l =
+    elim (zero-or-signed (exactSum a b c)) [
+      | inl e ↦ m .none e ∙ sym (l .none e)
+      | inr (s, n, h, e) ↦ rounds-to-determines binary32 s n (2 ^ 298) (pow-pos 298) r t (m .some s n h e) (l .some s n h e)
+    ]
+
+-- ---- whole results: by the whole number
+whole-same : (x r t : Float) (w v : ℕ) → Whole x r w → Whole x t v → w ≡ v → r ≡ t
+whole-same x r t w v m l e =
+    size-unique binary32 r t (m .value) (l .value) (m .number) (l .number) (m .sign ∙ sym (l .sign)) (m .size ∙ ap (λ (n : ℕ). n * 2 ^ 149) e ∙ sym (l .size))
+
+-- less than a step above is not above
+no-step : (u w v : ℕ) → w * u < v * u + u → w ≤ v
+no-step u w v h = less (lt-of-mul-lt-mul-right u (omega (arith, add-mul v 1 u)))
+  where
+    less : w < v + 1 → w ≤ v
+    less h = omega arith
+
+-- the multiple of u at or below n, and the one at or above it
+below-same : (n u w v : ℕ) → (w * u ≤ n) × (n < (w + 1) * u) → (v * u ≤ n) × (n < (v + 1) * u) → w ≡ v
+below-same n u w v h k = le-antisymm (no-step u w v (omega (arith, add-mul v 1 u))) (no-step u v w (omega (arith, add-mul w 1 u)))
+
+above-same : (n u w v : ℕ) → (n ≤ w * u) × (w * u < n + u) → (n ≤ v * u) × (v * u < n + u) → w ≡ v
+above-same n u w v h k = le-antisymm (no-step u w v (omega arith)) (no-step u v w (omega arith))
+
+trunc-determines : (x : Float) → Determines (Truncated x)
+trunc-determines x r t m l = whole-same x r t (m .w) (l .w) (m .whole) (l .whole) (below-same (sizeIn binary32 x) (2 ^ 149) (m .w) (l .w) (m .below, m .above) (l .below, l .above))
+
+floor-determines : (x : Float) → Determines (Floored x)
+floor-determines x r t m l = whole-same x r t (m .w) (l .w) (m .whole) (l .whole) (go (negative x) refl)
+  where
+    go : (s : Bool) → negative x ≡ s → m .w ≡ l .w
+    go false e = below-same (sizeIn binary32 x) (2 ^ 149) (m .w) (l .w) (m .positive e) (l .positive e)
+    go true e = above-same (sizeIn binary32 x) (2 ^ 149) (m .w) (l .w) (m .minus e) (l .minus e)
+
+round-determines : (x : Float) → Determines (RoundedEven x)
+round-determines x r t m l = whole-same x r t (m .w) (l .w) (m .whole) (l .whole) (elim (equal-or-not (m .w) (l .w)) [ inl e ↦ e | inr d ↦ both-even d ])
+  where
+    n : ℕ
+    n = sizeIn binary32 x
+
+    near : (w : ℕ) → ((v : ℕ) → distance (w * 2 ^ 149) n ≤ distance (v * 2 ^ 149) n) → Within (w * 2 ^ 149 * 2) (n * 2) (2 ^ 149)
+    near w h = near-of-best n (2 ^ 149) (closest n (2 ^ 149)) w (closest-near n (2 ^ 149) (pow-pos 149)) (h (closest n (2 ^ 149)))
+
+    level : distance (m .w * 2 ^ 149) n ≡ distance (l .w * 2 ^ 149) n
+    level = le-antisymm (m .nearest (l .w)) (l .nearest (m .w))
+
+    both-even : (m .w ≡ l .w → ⊥) → m .w ≡ l .w
+    both-even d =
+        even-unique n (2 ^ 149) (m .w) (l .w) (pow-pos 149) (near (m .w) (m .nearest)) (near (l .w) (l .nearest)) (m .even (l .w) d level) (l .even (m .w) (λ e. d (sym e)) (sym level))
+
+-- ---- the remainder: there is one number below the divisor
+rem-determines : (a b : Float) → Determines (Remainder a b)
+rem-determines a b r t m l = size-unique binary32 r t (m .value) (l .value) (m .number) (l .number) (m .sign ∙ sym (l .sign)) (is r m ∙ sym (is t l))
+  where
+    is : (r : Float) (m : Remainder a b r) → sizeIn binary32 r ≡ sizeIn binary32 a % sizeIn binary32 b
+    is r m = sym (ap (λ (n : ℕ). n % sizeIn binary32 b) (m .exact) ∙ digits-mod (m .quotient) (m .smaller))
+
+pub determined : Determined
+determined = record {
+  root = root-determines;
+  mul-add = fused-determines;
+  trunc = trunc-determines;
+  floor = floor-determines;
+  round = round-determines;
+  rem = rem-determines;
+}
