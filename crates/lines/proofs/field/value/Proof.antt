@@ -1,5 +1,5 @@
--- `lines::field::value` meets its contract. Assumes nothing.
-use Prim.Native.Nat.{_-_}
+-- `lines::field::value` meets its contract. The first i digits are read and gave n; each turn leaves fewer digits. Assumes nothing.
+use Prim.Native.Nat.{_-_, _<_}
 use mathlib.Core.Path.{_∙_}
 use native.Mathlib.Omega.{arith}
 use lib.ListN.{length}
@@ -13,6 +13,19 @@ Inv-loop digits n₀ i₀ n i = Reads digits n i
 
 abbrev μ-loop : tie.MeasureT-loop
 μ-loop digits n₀ i₀ n i = length digits - i
+
+-- the number in the loop and after it, where a digit more is left
+small : (c : tie.Else2 Inv-loop μ-loop) → c .before .before .before .before .before .before .before .loop .n < 1000000000
+small c =
+    let at-loop-test = c .before .before .before .before .before .before in
+    let at-loop = at-loop-test .before in
+    reads-below _ _ _ (at-loop .loop .inv) (omega (arith, at-loop .before .before .pre, at-loop-test .loop-test .taken))
+
+small-last : (c : tie.Else4 Inv-loop μ-loop) → c .before .before .before .before .before .loop .n < 1000000000
+small-last c =
+    let at-if3 = c .before .before .before in
+    let at-loop = at-if3 .before .before in
+    reads-below _ _ _ (at-loop .loop .inv) (omega (arith, at-loop .before .before .pre, at-if3 .if3 .taken))
 
 loop-holds : tie.Need-loop-holds Inv-loop μ-loop
 loop-holds c = reads-none _
@@ -40,20 +53,22 @@ digit-requires-2 c κs = search needs
 
 returns-2 : tie.Need-returns-2 Inv-loop μ-loop
 returns-2 c =
-    let more = reads-more _ _ _ (c .before .before .before .before .before .before .before .loop .inv) (omega (arith, c .before .before .before .before .before .before .loop-test .taken)) _ (c .before .before .before .before .digit .ensures .digit (c .before .before .before .if1 .left)) (c .before .before .before .if1 .left) in
-    reads-other _ _ _ more (c .before .before .before .before .before .before .loop-test .taken) (c .before .digit2 .ensures .other (c .if2 .taken))
+    let at-if1 = c .before .before .before in
+    let at-loop-test = at-if1 .before .before .before in
+    let more = reads-more _ _ _ (at-loop-test .before .loop .inv) (omega (arith, at-loop-test .loop-test .taken)) _ (at-if1 .before .digit .ensures .digit (at-if1 .if1 .left)) (at-if1 .if1 .left) in
+    reads-other _ _ _ more (at-loop-test .loop-test .taken) (c .before .digit2 .ensures .other (c .if2 .taken))
 
 mul-n : tie.Need-mul-n Inv-loop μ-loop
-mul-n c = let k = reads-below _ _ _ (c .before .before .before .before .before .before .before .loop .inv) (omega (arith, c .before .before .before .before .before .before .before .before .before .pre, c .before .before .before .before .before .before .loop-test .taken)) in omega arith
+mul-n c = omega (arith, small c)
 
 add-n : tie.Need-add-n Inv-loop μ-loop
-add-n c = let k = reads-below _ _ _ (c .before .before .before .before .before .before .before .loop .inv) (omega (arith, c .before .before .before .before .before .before .before .before .before .pre, c .before .before .before .before .before .before .loop-test .taken)) in omega arith
+add-n c = omega (arith, small c)
 
 mul-n-2 : tie.Need-mul-n-2 Inv-loop μ-loop
-mul-n-2 c = let k = reads-below _ _ _ (c .before .before .before .before .before .before .before .loop .inv) (omega (arith, c .before .before .before .before .before .before .before .before .before .pre, c .before .before .before .before .before .before .loop-test .taken)) in omega arith
+mul-n-2 c = omega (arith, small c)
 
 add-n-2 : tie.Need-add-n-2 Inv-loop μ-loop
-add-n-2 c = let k = reads-below _ _ _ (c .before .before .before .before .before .before .before .loop .inv) (omega (arith, c .before .before .before .before .before .before .before .before .before .pre, c .before .before .before .before .before .before .loop-test .taken)) in omega arith
+add-n-2 c = omega (arith, small c)
 
 add-i : tie.Need-add-i Inv-loop μ-loop
 add-i c = omega arith
@@ -63,7 +78,11 @@ loop-less c = omega (arith, c .before .before .before .before .before .before .l
 
 loop-again : tie.Need-loop-again Inv-loop μ-loop
 loop-again c =
-    reads-two _ _ _ _ _ (c .before .before .before .before .before .before .before .loop .inv) (c .before .before .before .before .before .before .loop-test .taken) (c .before .before .before .before .digit .ensures .digit (c .before .before .before .if1 .left)) (c .before .before .before .if1 .left) (c .before .digit2 .ensures .digit (c .if2 .left)) (c .if2 .left)
+    let at-if1 = c .before .before .before in
+    let at-loop-test = at-if1 .before .before .before in
+    let is-a = at-if1 .before .digit .ensures .digit (at-if1 .if1 .left) in
+    let is-b = c .before .digit2 .ensures .digit (c .if2 .left) in
+    reads-two _ _ _ _ _ (at-loop-test .before .loop .inv) (at-loop-test .loop-test .taken) is-a (at-if1 .if1 .left) is-b (c .if2 .left)
 
 shared-slice-read-digit-3 : tie.Need-shared-slice-read-digit-3 Inv-loop μ-loop
 shared-slice-read-digit-3 c = omega (arith, c .before .if3 .taken)
@@ -75,18 +94,21 @@ returns-3 : tie.Need-returns-3 Inv-loop μ-loop
 returns-3 c = reads-other _ _ _ (c .before .before .before .before .before .loop .inv) (c .before .before .before .if3 .taken) (c .before .digit3 .ensures .other (c .if4 .taken))
 
 mul-limited : tie.Need-mul-limited Inv-loop μ-loop
-mul-limited c = let k = reads-below _ _ _ (c .before .before .before .before .before .loop .inv) (omega (arith, c .before .before .before .before .before .before .before .pre, c .before .before .before .if3 .taken)) in omega arith
+mul-limited c = omega (arith, small-last c)
 
 add-limited : tie.Need-add-limited Inv-loop μ-loop
-add-limited c = let k = reads-below _ _ _ (c .before .before .before .before .before .loop .inv) (omega (arith, c .before .before .before .before .before .before .before .pre, c .before .before .before .if3 .taken)) in omega arith
+add-limited c = omega (arith, small-last c)
 
 limited-requires : tie.Need-limited-requires Inv-loop μ-loop
 limited-requires c κs = search needs
 
 returns-4 : tie.Need-returns-4 Inv-loop μ-loop
 returns-4 c =
-    let more = reads-more _ _ _ (c .before .before .before .before .before .before .loop .inv) (c .before .before .before .before .if3 .taken) _ (c .before .before .digit3 .ensures .digit (c .before .if4 .left)) (c .before .if4 .left) in
-    c .limited .ensures ∙ reads-all _ _ _ more (omega (arith, c .before .before .before .before .before .loop-test .left))
+    let at-if4 = c .before in
+    let at-if3 = at-if4 .before .before .before in
+    let at-loop-test = at-if3 .before in
+    let more = reads-more _ _ _ (at-loop-test .before .loop .inv) (at-if3 .if3 .taken) _ (at-if4 .before .digit3 .ensures .digit (at-if4 .if4 .left)) (at-if4 .if4 .left) in
+    c .limited .ensures ∙ reads-all _ _ _ more (omega (arith, at-loop-test .loop-test .left))
 
 limited-requires-2 : tie.Need-limited-requires-2 Inv-loop μ-loop
 limited-requires-2 c κs = search needs

@@ -1,9 +1,28 @@
 -- `lines::narrow::number` meets its contract. Assumes nothing.
+use Prim.Native.Nat.{ℕ, _*_, _-_, _/_, _≤_}
+use mathlib.Core.List.{List}
 use native.Mathlib.Omega.{arith}
+use lib.ListN.{length}
 use Rattle.lines.proofs.NarrowLaws.{none-ill, other-ill, zero-ill, digits-read, hundreds-below, tens-below}
 use borrow.Author.Needs.{needs}
 use Rattle.lines.proofs.narrow.number.Statement.{statement}
 use Rattle.lines.proofs.narrow.number.Tie as tie
+
+-- ---- at the sum: the digits, of which there are three at most, and its first two terms
+
+abbrev bytes : tie.Else5 → List ℕ
+bytes c = c .before .before .before .before .before .before .before .before .before .before .before .before .args .digits .now
+
+abbrev short : (c : tie.Else5) → length (bytes c) ≤ 3
+short c = c .before .before .before .before .before .before .before .before .before .before .before .before .pre
+
+hundreds : (c : tie.Else5) → c .before .before .before .before .before .before .before .before .digit .result * 100 * ((length (bytes c) - 1) / 2) ≤ 900
+hundreds c = hundreds-below _ _ (c .before .before .before .if2 .left) (short c)
+
+tens : (c : tie.Else5) → c .before .before .before .before .before .before .digit2 .result * 10 * (length (bytes c) / 2) ≤ 90
+tens c = tens-below _ _ (c .before .before .if3 .left) (short c)
+
+-- ---- the answers
 
 returns : tie.Need-returns
 returns c = none-ill _ (c .if1 .taken)
@@ -42,32 +61,39 @@ returns-4 : tie.Need-returns-4
 returns-4 c = other-ill _ _ (omega arith) (c .before .before .before .digit3 .ensures .other (c .if4 .taken))
 
 returns-5 : tie.Need-returns-5
-returns-5 c = zero-ill _ _ (c .before .before .before .before .before .before .before .before .before .before .before .before .pre) (c .before .before .before .before .before .before .before .before .digit .ensures .digit (c .before .before .before .if2 .left)) (c .if5 .taken)
+returns-5 c =
+    let at-if2 = c .before .before .before in
+    zero-ill _ _ (c .before .before .before .before .before .before .before .before .before .before .before .before .pre) (at-if2 .before .before .before .before .before .digit .ensures .digit (at-if2 .if2 .left)) (c .if5 .taken)
 
 mul-t14 : tie.Need-mul-t14
 mul-t14 c = search needs
 
 mul-t16 : tie.Need-mul-t16
-mul-t16 c = omega (arith, hundreds-below _ _ (c .before .before .before .if2 .left) (c .before .before .before .before .before .before .before .before .before .before .before .before .pre))
+mul-t16 c = omega (arith, hundreds c)
 
 mul-t17 : tie.Need-mul-t17
 mul-t17 c = search needs
 
 mul-t19 : tie.Need-mul-t19
-mul-t19 c = omega (arith, tens-below _ _ (c .before .before .if3 .left) (c .before .before .before .before .before .before .before .before .before .before .before .before .pre))
+mul-t19 c = omega (arith, tens c)
 
 add-t20 : tie.Need-add-t20
-add-t20 c = omega (arith, hundreds-below _ _ (c .before .before .before .if2 .left) (c .before .before .before .before .before .before .before .before .before .before .before .before .pre), tens-below _ _ (c .before .before .if3 .left) (c .before .before .before .before .before .before .before .before .before .before .before .before .pre))
+add-t20 c = omega (arith, hundreds c, tens c)
 
 add-t21 : tie.Need-add-t21
-add-t21 c = omega (arith, hundreds-below _ _ (c .before .before .before .if2 .left) (c .before .before .before .before .before .before .before .before .before .before .before .before .pre), tens-below _ _ (c .before .before .if3 .left) (c .before .before .before .before .before .before .before .before .before .before .before .before .pre))
+add-t21 c = omega (arith, hundreds c, tens c)
 
 cast-t22 : tie.Need-cast-t22
-cast-t22 c = omega (arith, hundreds-below _ _ (c .before .before .before .if2 .left) (c .before .before .before .before .before .before .before .before .before .before .before .before .pre), tens-below _ _ (c .before .before .if3 .left) (c .before .before .before .before .before .before .before .before .before .before .before .before .pre))
+cast-t22 c = omega (arith, hundreds c, tens c)
 
 returns-6 : tie.Need-returns-6
 returns-6 c =
-    digits-read _ _ _ (c .before .before .before .if2 .left) (c .before .before .if3 .left) (c .before .if4 .left) _ (omega arith) (c .before .before .before .before .before .before .before .before .before .before .before .before .pre) (c .before .before .before .before .before .before .before .before .digit .ensures .digit (c .before .before .before .if2 .left)) (c .before .before .before .before .before .before .digit2 .ensures .digit (c .before .before .if3 .left)) (c .before .before .before .before .digit3 .ensures .digit (c .before .if4 .left)) (c .if5 .left)
+    let at-if2 = c .before .before .before in
+    let at-if3 = c .before .before in
+    let is-a = at-if2 .before .before .before .before .before .digit .ensures .digit (at-if2 .if2 .left) in
+    let is-b = at-if3 .before .before .before .before .digit2 .ensures .digit (at-if3 .if3 .left) in
+    let is-c = c .before .before .before .before .digit3 .ensures .digit (c .before .if4 .left) in
+    digits-read _ _ _ (at-if2 .if2 .left) (at-if3 .if3 .left) (c .before .if4 .left) (bytes c) (omega arith) (short c) is-a is-b is-c (c .if5 .left)
 
 pub number-spec : {M : Type 1} → statement M
 number-spec =
