@@ -40,7 +40,7 @@ digit-requires : tie.Need-digit-requires Inv-loop μ-loop
 digit-requires c κs = search needs
 
 returns : tie.Need-returns Inv-loop μ-loop
-returns c = reads-other _ _ _ (c .before .before .before .before .loop .inv) (omega (arith, c .before .before .before .loop-test .taken)) (c .before .digit .ensures .other (c .if1 .taken))
+returns c = reads-other _ _ _ (c .before .before .before .before .loop .inv) (omega (arith, c .before .before .before .loop-test .taken)) (c .before .digit .ensures .other (omega arith))
 
 add-digit : tie.Need-add-digit Inv-loop μ-loop
 add-digit c = omega (arith, c .before .before .before .before .loop .inv .within)
@@ -55,8 +55,8 @@ returns-2 : tie.Need-returns-2 Inv-loop μ-loop
 returns-2 c =
     let at-if1 = c .before .before .before in
     let at-loop-test = at-if1 .before .before .before in
-    let more = reads-more _ _ _ (at-loop-test .before .loop .inv) (omega (arith, at-loop-test .loop-test .taken)) _ (at-if1 .before .digit .ensures .digit (at-if1 .if1 .left)) (at-if1 .if1 .left) in
-    reads-other _ _ _ more (at-loop-test .loop-test .taken) (c .before .digit2 .ensures .other (c .if2 .taken))
+    let more = reads-more _ _ _ (at-loop-test .before .loop .inv) (omega (arith, at-loop-test .loop-test .taken)) _ (at-if1 .before .digit .ensures .digit (omega arith)) (omega arith) in
+    reads-other _ _ _ more (at-loop-test .loop-test .taken) (c .before .digit2 .ensures .other (omega arith))
 
 mul-n : tie.Need-mul-n Inv-loop μ-loop
 mul-n c = omega (arith, small c)
@@ -80,9 +80,9 @@ loop-again : tie.Need-loop-again Inv-loop μ-loop
 loop-again c =
     let at-if1 = c .before .before .before in
     let at-loop-test = at-if1 .before .before .before in
-    let is-a = at-if1 .before .digit .ensures .digit (at-if1 .if1 .left) in
-    let is-b = c .before .digit2 .ensures .digit (c .if2 .left) in
-    reads-two _ _ _ _ _ (at-loop-test .before .loop .inv) (at-loop-test .loop-test .taken) is-a (at-if1 .if1 .left) is-b (c .if2 .left)
+    let is-a = at-if1 .before .digit .ensures .digit (omega arith) in
+    let is-b = c .before .digit2 .ensures .digit (omega arith) in
+    reads-two _ _ _ _ _ (at-loop-test .before .loop .inv) (at-loop-test .loop-test .taken) is-a (omega arith) is-b (omega arith)
 
 shared-slice-read-digit-3 : tie.Need-shared-slice-read-digit-3 Inv-loop μ-loop
 shared-slice-read-digit-3 c = omega (arith, c .before .if3 .taken)
@@ -91,7 +91,7 @@ digit-requires-3 : tie.Need-digit-requires-3 Inv-loop μ-loop
 digit-requires-3 c κs = search needs
 
 returns-3 : tie.Need-returns-3 Inv-loop μ-loop
-returns-3 c = reads-other _ _ _ (c .before .before .before .before .before .loop .inv) (c .before .before .before .if3 .taken) (c .before .digit3 .ensures .other (c .if4 .taken))
+returns-3 c = reads-other _ _ _ (c .before .before .before .before .before .loop .inv) (c .before .before .before .if3 .taken) (c .before .digit3 .ensures .other (omega arith))
 
 mul-limited : tie.Need-mul-limited Inv-loop μ-loop
 mul-limited c = omega (arith, small-last c)
@@ -107,7 +107,7 @@ returns-4 c =
     let at-if4 = c .before in
     let at-if3 = at-if4 .before .before .before in
     let at-loop-test = at-if3 .before in
-    let more = reads-more _ _ _ (at-loop-test .before .loop .inv) (at-if3 .if3 .taken) _ (at-if4 .before .digit3 .ensures .digit (at-if4 .if4 .left)) (at-if4 .if4 .left) in
+    let more = reads-more _ _ _ (at-loop-test .before .loop .inv) (at-if3 .if3 .taken) _ (at-if4 .before .digit3 .ensures .digit (omega arith)) (omega arith) in
     c .limited .ensures ∙ reads-all _ _ _ more (omega (arith, at-loop-test .loop-test .left))
 
 limited-requires-2 : tie.Need-limited-requires-2 Inv-loop μ-loop

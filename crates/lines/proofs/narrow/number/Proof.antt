@@ -17,10 +17,10 @@ abbrev short : (c : tie.Else5) → length (bytes c) ≤ 3
 short c = c .before .before .before .before .before .before .before .before .before .before .before .before .pre
 
 hundreds : (c : tie.Else5) → c .before .before .before .before .before .before .before .before .digit .result * 100 * ((length (bytes c) - 1) / 2) ≤ 900
-hundreds c = hundreds-below _ _ (c .before .before .before .if2 .left) (short c)
+hundreds c = hundreds-below _ _ (omega arith) (short c)
 
 tens : (c : tie.Else5) → c .before .before .before .before .before .before .digit2 .result * 10 * (length (bytes c) / 2) ≤ 90
-tens c = tens-below _ _ (c .before .before .if3 .left) (short c)
+tens c = tens-below _ _ (omega arith) (short c)
 
 -- ---- the answers
 
@@ -52,18 +52,16 @@ digit-requires-3 : tie.Need-digit-requires-3
 digit-requires-3 c κs = search needs
 
 returns-2 : tie.Need-returns-2
-returns-2 c = other-ill _ 0 (omega arith) (c .before .before .before .before .before .digit .ensures .other (c .if2 .taken))
+returns-2 c = other-ill _ 0 (omega arith) (c .before .before .before .before .before .digit .ensures .other (omega arith))
 
 returns-3 : tie.Need-returns-3
-returns-3 c = other-ill _ _ (omega arith) (c .before .before .before .before .digit2 .ensures .other (c .if3 .taken))
+returns-3 c = other-ill _ _ (omega arith) (c .before .before .before .before .digit2 .ensures .other (omega arith))
 
 returns-4 : tie.Need-returns-4
-returns-4 c = other-ill _ _ (omega arith) (c .before .before .before .digit3 .ensures .other (c .if4 .taken))
+returns-4 c = other-ill _ _ (omega arith) (c .before .before .before .digit3 .ensures .other (omega arith))
 
 returns-5 : tie.Need-returns-5
-returns-5 c =
-    let at-if2 = c .before .before .before in
-    zero-ill _ _ (c .before .before .before .before .before .before .before .before .before .before .before .before .pre) (at-if2 .before .before .before .before .before .digit .ensures .digit (at-if2 .if2 .left)) (c .if5 .taken)
+returns-5 c = zero-ill _ _ (c .before .before .before .before .before .before .before .before .before .before .before .before .pre) (c .before .before .before .before .before .before .before .before .digit .ensures .digit (omega arith)) (omega arith)
 
 mul-t14 : tie.Need-mul-t14
 mul-t14 c = search needs
@@ -88,12 +86,10 @@ cast-t22 c = omega (arith, hundreds c, tens c)
 
 returns-6 : tie.Need-returns-6
 returns-6 c =
-    let at-if2 = c .before .before .before in
-    let at-if3 = c .before .before in
-    let is-a = at-if2 .before .before .before .before .before .digit .ensures .digit (at-if2 .if2 .left) in
-    let is-b = at-if3 .before .before .before .before .digit2 .ensures .digit (at-if3 .if3 .left) in
-    let is-c = c .before .before .before .before .digit3 .ensures .digit (c .before .if4 .left) in
-    digits-read _ _ _ (at-if2 .if2 .left) (at-if3 .if3 .left) (c .before .if4 .left) (bytes c) (omega arith) (short c) is-a is-b is-c (c .if5 .left)
+    let is-a = c .before .before .before .before .before .before .before .before .digit .ensures .digit (omega arith) in
+    let is-b = c .before .before .before .before .before .before .digit2 .ensures .digit (omega arith) in
+    let is-c = c .before .before .before .before .digit3 .ensures .digit (omega arith) in
+    digits-read _ _ _ (omega arith) (omega arith) (omega arith) (bytes c) (omega arith) (short c) is-a is-b is-c (omega arith)
 
 pub number-spec : {M : Type 1} → statement M
 number-spec =
