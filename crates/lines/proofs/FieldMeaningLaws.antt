@@ -9,7 +9,7 @@ use lib.Dec.{eqb, ltb, leb}
 use lib.ListN.{length, getD, replicate}
 use Rattle.lines.specs.declared.field.Reading.{Reading}
 use Rattle.lines.specs.declared.field.Reading.the-variants.{Value, Ill}
-use Rattle.lines.specs.Field.{digits, isDigit, decimal, valueFrom, value, leadingZero, number}
+use Rattle.lines.specs.Field.{digits, isDigit, decimal, valueFrom, limit, value, leadingZero, number}
 use Rattle.lines.specs.FieldMeaning.{Numeral, IsField, ReadsFields}
 
 -- ---- digits
@@ -75,7 +75,8 @@ pub numeral-read : (ds : List ℕ) (n : ℕ) → Numeral ds n → n ≤ 42949672
 unfolding number value
 numeral-read ds n h s =
     let ne : length ds ≡ 0 → ⊥ = λ e. omega (arith, e, h .some-digit) in
-    rw (ne-eqb _ _ ne, numeral-no-zero ds n h, h .decimals, h .value, le-leb _ _ s) refl
+    let fits : n ≤ limit = omega arith in
+    rw (ne-eqb _ _ ne, numeral-no-zero ds n h, h .decimals, h .value, le-leb _ _ fits) refl
 
 pub field-read : (l : List ℕ) (n : ℕ) → IsField l n → number (digits l) ≡ Value n
 field-read l n h =
@@ -106,11 +107,11 @@ read-numeral ds n e =
     let some = not-ill (eqb (length ds) 0) _ n e in
     let front = not-ill (leadingZero ds) _ n (some .1) in
     let all = well (decimal ds) _ n (front .1) in
-    let small = well (leb (valueFrom 0 ds) 4294967295) _ n (all .1) in
+    let small = well (leb (valueFrom 0 ds) limit) _ n (all .1) in
     let is : valueFrom 0 ds ≡ n = cc in
     let ne : length ds ≡ 0 → ⊥ = eqb-false _ _ (some .0) in
     let s : 0 < length ds = omega arith in
-    (record { decimals = all .0; some-digit = s; zero-alone = alone ds s (front .0); value = is }, omega (arith, leb-true (valueFrom 0 ds) 4294967295 (small .0), is))
+    (record { decimals = all .0; some-digit = s; zero-alone = alone ds s (front .0); value = is }, omega (arith, leb-true (valueFrom 0 ds) limit (small .0), is))
 
 pub read-field : (l : List ℕ) (n : ℕ) → number (digits l) ≡ Value n → IsField l n
 unfolding digits

@@ -17,6 +17,14 @@ use Rattle.lines.proofs.ReadLaws.{cond-same}
 
 -- ---- the part after the blanks
 
+pub blank-one : (b : ℕ) → b ≡ 32 → 1 ≡ bit (eqb b 32)
+unfolding bit
+blank-one b e = rw (eq-eqb _ _ e) refl
+
+pub other-none : (b : ℕ) → (b ≡ 32 → ⊥) → 0 ≡ bit (eqb b 32)
+unfolding bit
+other-none b n = rw (ne-eqb _ _ n) refl
+
 -- how many of three columns are blank and have blanks alone before them
 abbrev pub blanks : ℕ → ℕ → ℕ → ℕ
 blanks a b c = bit (eqb a 32) * (1 + bit (eqb b 32) * (1 + bit (eqb c 32)))

@@ -11,7 +11,7 @@ use borrow.Author.Tests.{ltb-true, ltb-false, eq-eqb, ne-eqb, lt-ltb, lt-leb}
 use lib.ListN.{length, getD, take, drop, drop-of-length-le, length-drop}
 use lib.Seq.{drop-cons, take-all}
 use Rattle.lines.specs.declared.field.Reading.the-variants.{Ill}
-use Rattle.lines.specs.Field.{digits, isDigit, decimal, valueFrom, value, leadingZero}
+use Rattle.lines.specs.Field.{digits, isDigit, decimal, valueFrom, limit, value, leadingZero}
 use Rattle.lines.specs.ColumnParts.{limited, DigitValue}
 use Rattle.lines.proofs.FieldMeaningLaws.{digit-is, no-digit}
 
@@ -98,7 +98,7 @@ value-scaled n (b ∷ l) =
     let e : n * 10 ^ suc (length l) ≡ n * 10 * 10 ^ length l = rw (pow-suc 10 (length l), mul-comm (10 ^ length l) 10) (sym (mul-assoc n 10 (10 ^ length l))) in
     rw e (le-trans s (value-scaled (n * 10 + (b - 48)) l))
 
-ten-more : (n : ℕ) (l : List ℕ) → 0 < n → 10 ≤ length l → 4294967295 < valueFrom n l
+ten-more : (n : ℕ) (l : List ℕ) → 0 < n → 10 ≤ length l → limit < valueFrom n l
 ten-more n l p q =
     let t : 10 ^ 10 ≤ 10 ^ length l = pow-le-pow-right {n = 10} (omega arith) q in
     let s : 1 * 10 ^ length l ≤ n * 10 ^ length l = mul-le-mul-right (10 ^ length l) p in
@@ -128,5 +128,5 @@ long-ill (b ∷ l) p q = go (ltb b 49) refl
         rw (lt-leb _ _ lo)
     go false e =
         let hi : 49 ≤ b = ltb-false b 49 e in
-        let v : 4294967295 < valueFrom (0 * 10 + (b - 48)) l = ten-more (0 * 10 + (b - 48)) l (omega arith) (omega arith) in
+        let v : limit < valueFrom (0 * 10 + (b - 48)) l = ten-more (0 * 10 + (b - 48)) l (omega arith) (omega arith) in
         rw (lt-leb _ _ v) (sym (cond-same (decimal (b ∷ l)) Ill))

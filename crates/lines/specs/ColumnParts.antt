@@ -7,11 +7,11 @@ use lib.Dec.{leb}
 use lib.ListN.{take, drop}
 use Rattle.lines.specs.declared.field.Reading.{Reading}
 use Rattle.lines.specs.declared.field.Reading.the-variants.{Value, Ill}
-use Rattle.lines.specs.Field.{isDigit, written}
+use Rattle.lines.specs.Field.{isDigit, limit, written}
 
--- "ill formed above 4294967295"
+-- a number up to the limit
 unfoldable pub limited : ℕ → Reading
-limited n = cond (leb n 4294967295) (Value n) Ill
+limited n = cond (leb n limit) (Value n) Ill
 
 -- the bytes after n is written into the w columns from `at` on
 unfoldable pub putField : ℕ → ℕ → ℕ → List ℕ → List ℕ
