@@ -7,6 +7,7 @@ extern "C" {
     fn bench_trunc(x: f32) -> f32;
     fn bench_floor(x: f32) -> f32;
     fn bench_round(x: f32) -> f32;
+    fn bench_rem(a: f32, b: f32) -> f32;
     fn bench_run(commands: *const u32, count: usize, answers: *mut u32, lent: usize) -> u32;
 }
 
@@ -16,12 +17,13 @@ pub struct Scalar {
     pub call: fn(&[u32]) -> f32,
 }
 
-pub static SCALARS: [Scalar; 5] = [
+pub static SCALARS: [Scalar; 6] = [
     Scalar { number: 1, call: |n| unsafe { bench_sqrt(float(n[0])) } },
     Scalar { number: 2, call: |n| unsafe { bench_mul_add(float(n[0]), float(n[1]), float(n[2])) } },
     Scalar { number: 3, call: |n| unsafe { bench_trunc(float(n[0])) } },
     Scalar { number: 4, call: |n| unsafe { bench_floor(float(n[0])) } },
     Scalar { number: 5, call: |n| unsafe { bench_round(float(n[0])) } },
+    Scalar { number: 9, call: |n| unsafe { bench_rem(float(n[0]), float(n[1])) } },
 ];
 
 fn float(bits: u32) -> f32 {
