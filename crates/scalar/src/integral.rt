@@ -2,7 +2,8 @@
 // difference is exact (near-whole); from 2 ^ 23 on every float is whole (large-stays).
 ghost use mathlib.Core.Path.{_≡_};
 ghost use mathlib.Core.Bool.{not, cond};
-ghost use lib.Dec.{T};
+ghost use Prim.Native.Nat.{_-_};
+ghost use lib.Dec.{T, ltb};
 ghost use lib.Ieee as Ieee;
 ghost use Rattle.scalar.specs.Integral as Integral;
 ghost use Rattle.scalar.specs.Sign as Sign;
@@ -11,18 +12,16 @@ use crate::sign::copysign_bits;
 // 2 ^ 23: from here on a float has no bit below 1.
 const WHOLE: f32 = 8388608.0;
 
+// Toward zero: the bits that count less than 1 are cleared (cut-bits).
 pub fn trunc(x: f32) -> f32
     ensures { λ r. ⌜ r ≡ Integral.trunc x ⌝ }
 {
     if x != x {
         return x;
     }
-    let a = size(x);
-    if a < WHOLE {
-        let w = (a + WHOLE) - WHOLE;
-        return signed(pick(a < w, w - 1.0, w), x);
-    }
-    x
+    let b = f32::to_bits(x);
+    let d = places(b % 0x8000_0000 / 0x80_0000);
+    f32::from_bits((b >> d) << d)
 }
 
 pub fn floor(x: f32) -> f32
@@ -51,6 +50,16 @@ pub fn round(x: f32) -> f32
         return signed((a + WHOLE) - WHOLE, x);
     }
     x
+}
+
+// How many bits of a pattern count less than 1, e being its exponent: all but the sign's below 1, none from 2 ^ 23 on.
+fn places(e: u32) -> u32
+    ensures { λ d. ⌜ d ≡ cond (ltb e 127) 31 (150 - e) ⌝ }
+{
+    if e < 127 {
+        return 31;
+    }
+    if e < 150 { 150 - e } else { 0 }
 }
 
 // The size of a number.
