@@ -89,9 +89,6 @@ one-is : Value binary32 one false (1 * 2 ^ 149)
 unfolding ofBits
 one-is = (refl, refl)
 
-value-number : (x : Float) (s : Bool) (i : ℕ) → Value binary32 x s i → T (not (isNan x))
-value-number x s i v = finite-number x (value-finite x s i (2 ^ 149) v)
-
 finite-below : (x : Float) → lt (abs x) whole ≡ true → T (finite x)
 unfolding abs lt ofBits
 finite-below nan h = absurd (true≢false (sym h))
@@ -153,7 +150,8 @@ module _ (x a : Float) (fx : T (fits binary32 x)) (e : a ≡ abs x) (small : lt 
   w-value s = whole-value binary32 s w w-fits
 
   pub nearest-number : T (not (isNan (sub binary32 (add binary32 a whole) whole)))
-  nearest-number = subst (λ (y : Float). T (not (isNan y))) (sym nearest-is) (value-number (round binary32 false w 1) false (w * 2 ^ 149) (w-value false))
+  nearest-number =
+      subst (λ (y : Float). T (not (isNan y))) (sym nearest-is) (finite-number (round binary32 false w 1) (value-finite (round binary32 false w 1) false (w * 2 ^ 149) (2 ^ 149) (w-value false)))
 
   pub round-sum : copysign (sub binary32 (add binary32 a whole) whole) x ≡ integral even x
   unfolding n w
@@ -180,20 +178,10 @@ module _ (x a : Float) (fx : T (fits binary32 x)) (e : a ≡ abs x) (small : lt 
   unfolding n w
   not-past h = cut-same n (2 ^ 149) (pow-pos 149) (nltb→le n (w * 2 ^ 149) (subst (λ (t : Bool). T (not t)) (sym h) tt))
 
-  -- toward zero
+  -- one less where the nearest is above a
   less-step : (t : Bool) → ltb n (w * 2 ^ 149) ≡ t → cond t (sub binary32 (round binary32 false w 1) one) (round binary32 false w 1) ≡ round binary32 false (n / 2 ^ 149) 1
   less-step true h = less-one (ltb→lt n (w * 2 ^ 149) (subst T (sym h) tt))
   less-step false h = ap (λ (i : ℕ). round binary32 false i 1) (sym (not-past h))
-
-  module _ (r : Float) (r-is : r ≡ cond (lt a (sub binary32 (add binary32 a whole) whole)) (sub binary32 (sub binary32 (add binary32 a whole) whole) one) (sub binary32 (add binary32 a whole) whole)) where
-    cut-is : r ≡ round binary32 false (n / 2 ^ 149) 1
-    cut-is = r-is ∙ ap (λ (y : Float). cond (lt a (sub binary32 (add binary32 a whole) whole)) (sub binary32 y one) y) nearest-is ∙ less-step (lt a (sub binary32 (add binary32 a whole) whole)) (sym past)
-
-    pub trunc-number : T (not (isNan r))
-    trunc-number = subst (λ (y : Float). T (not (isNan y))) (sym cut-is) (value-number (round binary32 false (n / 2 ^ 149) 1) false (n / 2 ^ 149 * 2 ^ 149) (whole-value binary32 false (n / 2 ^ 149) part-fits))
-
-    pub trunc-sum : copysign r x ≡ integral cut x
-    trunc-sum = ap (λ (y : Float). copysign y x) cut-is ∙ signed-whole x (n / 2 ^ 149) part-fits ∙ sym (found cut cut-rule)
 
   -- downward, for either sign
   less-negative : sub binary32 (round binary32 true w 1) one ≡ round binary32 true (w + 1) 1
@@ -206,11 +194,12 @@ module _ (x a : Float) (fx : T (fits binary32 x)) (e : a ≡ abs x) (small : lt 
   floor-step true true h = less-negative ∙ ap (λ (i : ℕ). round binary32 true i 1) (lower-next n (2 ^ 149) (pow-pos 149) (ltb→lt (w * 2 ^ 149) n (subst T (sym h) tt)))
   floor-step true false h = ap (λ (i : ℕ). round binary32 true i 1) (lower-same n (2 ^ 149) (pow-pos 149) (nltb→le (w * 2 ^ 149) n (subst (λ (t : Bool). T (not t)) (sym h) tt)))
 
-  pub floor-sum : (v : Float) → v ≡ copysign (sub binary32 (add binary32 a whole) whole) x → cond (lt x v) (sub binary32 v one) v ≡ integral lower x
-  floor-sum v v-is = ap (λ (y : Float). cond (lt x v) (sub binary32 y one) y) v-whole ∙ floor-step (negative x) (lt x v) (sym beyond) ∙ sym (found lower lower-rule)
+  pub floor-near : (v : Float) → v ≡ integral even x → cond (lt x v) (sub binary32 v one) v ≡ integral lower x
+  unfolding n w
+  floor-near v v-is = ap (λ (y : Float). cond (lt x v) (sub binary32 y one) y) v-whole ∙ floor-step (negative x) (lt x v) (sym beyond) ∙ sym (found lower lower-rule)
     where
       v-whole : v ≡ round binary32 (negative x) w 1
-      v-whole = v-is ∙ signed-is
+      v-whole = v-is ∙ found even even-rule
 
       beyond : lt x v ≡ below (negative x) n (negative x) (w * 2 ^ 149)
       beyond = ap (lt x) v-whole ∙ lt-is x (round binary32 (negative x) w 1) (negative x) (negative x) n (w * 2 ^ 149) (2 ^ 149) (pow-pos 149) x-is (w-value (negative x))
