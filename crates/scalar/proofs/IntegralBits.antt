@@ -3,7 +3,7 @@ use mathlib.Core.Path.{_≡_, refl, sym, ap, _∙_, subst}
 use mathlib.Core.Logic.{inr}
 use mathlib.Core.Bool.{Bool, true, false, not, cond}
 use Prim.Native.Nat.{ℕ, _+_, _-_, _*_, _/_, _%_, _^_, _≤_, _<_}
-use native.Mathlib.Nat.{le-trans, le-of-eq, le-of-lt, lt-of-le-of-lt, lt-of-lt-of-le, mul-one, zero-mul, add-mul, mul-assoc, mul-right-comm, mul-le-mul-left, mul-le-mul-right, lt-of-mul-lt-mul-right, not-le-of-lt, mod-lt, mod-eq-of-lt, div-add-mod', div-mul-le-self, div-lt-iff-lt-mul}
+use native.Mathlib.Nat.{le-trans, le-of-eq, le-of-lt, lt-of-le-of-lt, lt-of-lt-of-le, mul-one, add-mul, mul-assoc, mul-le-mul-left, mul-le-mul-right, lt-of-mul-lt-mul-right, not-le-of-lt, mod-lt, mod-eq-of-lt, div-add-mod', div-mul-le-self, div-lt-iff-lt-mul}
 use native.Mathlib.Omega.{arith}
 use lib.Arith.{digits-div, le→nltb}
 use lib.Dec.{T, leb, ltb, eqb, lit≤, lit<, leb→le, nleb→lt, ltb→lt, nltb→le, lt→ltb, eqb→eq}
@@ -20,7 +20,7 @@ use Rattle.scalar.specs.Integral.{integral, cut}
 use Rattle.scalar.specs.Parts.{Split, Packs}
 use Rattle.scalar.proofs.BitsLaws.{fields, at-255, at-0, at-mid, split-0, split-mid}
 use Rattle.scalar.proofs.PackLaws.{pack-is}
-use Rattle.scalar.proofs.PartsLaws.{value-of-parts, parts-under}
+use Rattle.scalar.proofs.PartsLaws.{value-of-parts}
 use Rattle.scalar.proofs.IntegralLaws.{integral-at, other-stays, whole-stays}
 use Rattle.scalar.proofs.IntegralRules.{cut-rule}
 
