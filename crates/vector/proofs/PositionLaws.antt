@@ -1,9 +1,10 @@
--- The positions are at most 2; without NaNs they are those of the first least and of the first greatest component. Assumes nothing.
+-- The positions are at most 2; without NaNs they are those of the first least and of the first greatest component, of which there is one. Assumes nothing.
 use mathlib.Core.Path.{_≡_}
 use mathlib.Core.Bool.{Bool, true, false, not, _||_, cond, true≢false}
 use Prim.Native.Nat.{ℕ, zero, suc, _≤_, _<_}
+use native.Mathlib.Nat.{le-antisymm}
 use native.Mathlib.Omega.{arith}
-use lib.Dec.{T, lit≤}
+use lib.Dec.{T, ltb, not-T, ltb→lt, nltb→le, lit≤}
 use lib.Ieee.{Float, lt, isNan}
 use Rattle.vector.specs.declared.vec3.Vec3.{Vec3}
 use Rattle.vector.specs.Indexed.{indexed, component}
@@ -23,7 +24,22 @@ position-small before a = go (before (a .z) (cond (before (a .y) (a .x)) (a .y) 
 
 pub positions : (a : Vec3) → Positions a
 unfolding minPosition maxPosition
-positions a = record { least = position-small lt a; greatest = position-small gt a }
+positions a = record { least = position-small _ a; greatest = position-small _ a }
+
+-- ---- a first index is the only one
+clash : (b : Bool) → T b → T (not b) → ⊥
+clash true t f = f
+
+module _ (before : Float → Float → Bool) (a : Vec3) where
+  not-above : (i j : ℕ) → First before a i → First before a j → j ≤ i
+  not-above i j p q =
+      nltb→le i j
+      (not-T (ltb i j) (λ t.
+      let h = ltb→lt i j t in
+      clash (before (at a j) (at a i)) (q .lower i (omega arith)) (p .none j (omega arith))))
+
+  pub first-unique : (i j : ℕ) → First before a i → First before a j → i ≡ j
+  first-unique i j p q = le-antisymm (not-above j i q p) (not-above i j p q)
 
 -- ---- the positions are the first ones
 
@@ -48,6 +64,7 @@ module _ (before : Float → Float → Bool)
     at-0 : T (not (before (a .y) (a .x))) → T (not (before (a .z) (a .x))) → First before a 0
     unfolding component indexed
     at-0 y z = record {
+      within = lit≤ tt;
       none = by-index (λ (j : ℕ). T (not (before (at a j) (a .x)))) (never (a .x)) y z;
       lower = λ j h. absurd (omega arith);
     }
@@ -55,6 +72,7 @@ module _ (before : Float → Float → Bool)
     at-1 : T (before (a .y) (a .x)) → T (not (before (a .z) (a .y))) → First before a 1
     unfolding component indexed
     at-1 x z = record {
+      within = lit≤ tt;
       none = by-index (λ (j : ℕ). T (not (before (at a j) (a .y)))) (once (a .y) (a .x) x) (never (a .y)) z;
       lower = λ j h. by-index (λ (j : ℕ). j < 1 → T (before (a .y) (at a j))) (λ h. x) (λ h. absurd (omega arith)) (λ h. absurd (omega arith)) j (omega arith) h;
     }
@@ -62,6 +80,7 @@ module _ (before : Float → Float → Bool)
     at-2 : T (before (a .z) (a .x)) → T (before (a .z) (a .y)) → First before a 2
     unfolding component indexed
     at-2 x y = record {
+      within = lit≤ tt;
       none = by-index (λ (j : ℕ). T (not (before (at a j) (a .z)))) (once (a .z) (a .x) x) (once (a .z) (a .y) y) (never (a .z));
       lower = λ j h. by-index (λ (j : ℕ). j < 2 → T (before (a .z) (at a j))) (λ h. x) (λ h. y) (λ h. absurd (omega arith)) j (omega arith) h;
     }
@@ -92,9 +111,6 @@ module _ (before : Float → Float → Bool)
 gt-split : (z x y : Float) → T (not (isNan y)) → T (gt z x) → T (not (gt y x)) → T (gt z y)
 gt-split z x y n h k = go (lt y z) (λ (f : T (not (lt y z))). clash (lt x y) (lt-split x z y n h f) k)
   where
-    clash : (b : Bool) → T b → T (not b) → ⊥
-    clash true t f = f
-
     go : (b : Bool) → (T (not b) → ⊥) → T b
     go true f = tt
     go false f = absurd (f tt)
