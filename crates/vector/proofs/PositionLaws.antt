@@ -1,7 +1,7 @@
 -- The positions are at most 2; without NaNs they are those of the first least and of the first greatest component, of which there is one. Assumes nothing.
 use mathlib.Core.Path.{_≡_}
-use mathlib.Core.Bool.{Bool, true, false, not, _||_, cond, true≢false}
-use Prim.Native.Nat.{ℕ, zero, suc, _≤_, _<_}
+use mathlib.Core.Bool.{Bool, true, false, not, cond}
+use Prim.Native.Nat.{ℕ, _≤_, _<_}
 use native.Mathlib.Nat.{le-antisymm}
 use native.Mathlib.Omega.{arith}
 use lib.Dec.{T, ltb, not-T, ltb→lt, nltb→le, lit≤}
@@ -11,6 +11,7 @@ use Rattle.vector.specs.Indexed.{indexed, component}
 use Rattle.vector.specs.Comparisons as Comparisons
 use Rattle.vector.specs.Elements.{gt, position, minPosition, maxPosition}
 use Rattle.vector.specs.ElementsMeaning.{Positions, at, First}
+use Rattle.vector.proofs.IndexedLaws.{by-index, number-at}
 use Rattle.vector.proofs.OrderLaws.{lt-once, lt-split}
 
 position-small : (before : Float → Float → Bool) (a : Vec3) → position before a ≤ 2
@@ -42,13 +43,6 @@ module _ (before : Float → Float → Bool) (a : Vec3) where
   first-unique i j p q = le-antisymm (not-above j i q p) (not-above i j p q)
 
 -- ---- the positions are the first ones
-
--- for each index
-by-index : (P : ℕ → Type 0) → P 0 → P 1 → P 2 → (j : ℕ) → j ≤ 2 → P j
-by-index P x y z zero h = x
-by-index P x y z (suc zero) h = y
-by-index P x y z (suc (suc zero)) h = z
-by-index P x y z (suc (suc (suc j))) h = absurd (omega arith)
 
 module _ (before : Float → Float → Bool)
     (once : (x y : Float) → T (before x y) → T (not (before y x)))
@@ -115,19 +109,10 @@ gt-split z x y n h k = go (lt y z) (λ (f : T (not (lt y z))). clash (lt x y) (l
     go true f = tt
     go false f = absurd (f tt)
 
-numbers : (a : Vec3) → Comparisons.isNan a ≡ false → T (not (isNan (a .x))) × T (not (isNan (a .y)))
-unfolding Comparisons.isNan
-numbers a = go (isNan (a .x)) (isNan (a .y)) (isNan (a .z))
-  where
-    go : (p q r : Bool) → p || q || r ≡ false → T (not p) × T (not q)
-    go false false r e = (tt, tt)
-    go false true r e = absurd (true≢false e)
-    go true q r e = absurd (true≢false e)
-
 pub first-least : (a : Vec3) → Comparisons.isNan a ≡ false → First lt a (minPosition a)
-unfolding minPosition
-first-least a n = is-first lt lt-once lt-split a (numbers a n .0) (numbers a n .1)
+unfolding minPosition component indexed
+first-least a n = is-first lt lt-once lt-split a (number-at a n 0 (lit≤ tt)) (number-at a n 1 (lit≤ tt))
 
 pub first-greatest : (a : Vec3) → Comparisons.isNan a ≡ false → First gt a (maxPosition a)
-unfolding maxPosition
-first-greatest a n = is-first gt (λ (x y : Float). lt-once y x) gt-split a (numbers a n .0) (numbers a n .1)
+unfolding maxPosition component indexed
+first-greatest a n = is-first gt (λ (x y : Float). lt-once y x) gt-split a (number-at a n 0 (lit≤ tt)) (number-at a n 1 (lit≤ tt))

@@ -7,6 +7,7 @@ pub mod Elements
 pub mod ElementsMeaning
 pub mod Comparisons
 pub mod Signs
+pub mod SignsMeaning
 pub mod Products
 pub mod Normalizing
 pub mod NormalizingMeaning
