@@ -1,5 +1,6 @@
 -- The definitions of crate vector, file by file.
 pub mod Vectors
+pub mod Answers
 pub mod Masks
 pub mod Indexed
 pub mod Operators
