@@ -35,6 +35,18 @@ pub(crate) fn refused(refusal: u32, count: usize) -> Answer
     }
 }
 
+// The answer to a call that is not refused.
+pub(crate) fn done(count: usize, results: [u32; 6]) -> Answer
+    requires { ⌜ count ≤ 6 ⌝ }
+    ensures { λ r. ⌜ r .count ≤ 6 ⌝ }
+{
+    Answer {
+        refusal: NONE,
+        count: count,
+        results: results,
+    }
+}
+
 // Writes the answer's line from `at` on, and gives the place behind it.
 pub(crate) fn put_answer(out: &mut [u8], at: usize, answer: Answer) -> usize
     requires { ⌜ at + longest ≤ length (now out) ⌝ }

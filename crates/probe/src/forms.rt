@@ -1,10 +1,19 @@
 // Arguments read from a call's values, and results in the form of an answer.
 ghost use Prim.Native.Nat.{_≤_};
+ghost use mathlib.Core.Path.{_≡_};
+ghost use Rattle.vector.specs.Signs as Signs;
 use scalar::bits::from_bits;
 use scalar::bits::to_bits;
 use vector::bvec3::BVec3;
 use vector::vec3::Vec3;
 use vector::vec4::Vec4;
+
+// The vector of three bit patterns.
+pub(crate) fn vector_of(x: u32, y: u32, z: u32) -> Vec3
+    ensures { λ r. ⌜ r ≡ Signs.ofPatterns x y z ⌝ }
+{
+    Vec3::new(from_bits(x), from_bits(y), from_bits(z))
+}
 
 // The vector and the mask whose first value has the place `at`, 1 to 7.
 pub(crate) fn vector_at(values: &[u32; 10], at: usize) -> Vec3
@@ -13,7 +22,7 @@ pub(crate) fn vector_at(values: &[u32; 10], at: usize) -> Vec3
     let x = values[at];
     let y = values[at + 1];
     let z = values[at + 2];
-    Vec3::new(from_bits(x), from_bits(y), from_bits(z))
+    vector_of(x, y, z)
 }
 
 pub(crate) fn mask_at(values: &[u32; 10], at: usize) -> BVec3

@@ -1,0 +1,2 @@
+-- The laws of crate probe, file by file.
+pub mod NumberSigns
