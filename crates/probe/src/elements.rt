@@ -1,5 +1,8 @@
 // The functions of Vec3 on its elements, 40 to 63, and its constants and a component, 103 and 114 to 119.
 ghost use Prim.Native.Nat.{_≤_};
+ghost use lib.Ieee.{binary32, toBits};
+ghost use Rattle.vector.specs.Indexed as Indexed;
+ghost use Rattle.probe.specs.Shows.{Shows};
 use crate::answer::Answer;
 use crate::answer::INDEX;
 use crate::answer::done;
@@ -86,7 +89,7 @@ pub(crate) fn component(values: &[u32; 10]) -> Answer
 
 // A number, or the refusal.
 fn at(c: Component) -> Answer
-    ensures { λ r. ⌜ r .count ≤ 6 ⌝ }
+    ensures { λ r. ⌜ Shows (toBits binary32) (Indexed.answerOf c) r ⌝ }
 {
     let Component::At(x) = c else {
         return refused(INDEX, 1);

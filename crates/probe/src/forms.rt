@@ -1,7 +1,10 @@
 // Arguments read from a call's values, and results in the form of an answer.
 ghost use Prim.Native.Nat.{_≤_};
 ghost use mathlib.Core.Path.{_≡_};
+ghost use lib.Ieee.{binary32, toBits};
+ghost use Rattle.vector.specs.Masks as Masks;
 ghost use Rattle.vector.specs.Signs as Signs;
+ghost use Rattle.probe.specs.Shows.{one};
 use scalar::bits::from_bits;
 use scalar::bits::to_bits;
 use vector::bvec3::BVec3;
@@ -35,12 +38,16 @@ pub(crate) fn mask_at(values: &[u32; 10], at: usize) -> BVec3
 }
 
 // The results of a function that gives a float, a bool, a whole number, and so on.
-pub(crate) fn float(x: f32) -> [u32; 6] {
+pub(crate) fn float(x: f32) -> [u32; 6]
+    ensures { λ r. ⌜ r ≡ one (toBits binary32 x) ⌝ }
+{
     let bits = to_bits(x);
     [bits, 0, 0, 0, 0, 0]
 }
 
-pub(crate) fn flag(b: bool) -> [u32; 6] {
+pub(crate) fn flag(b: bool) -> [u32; 6]
+    ensures { λ r. ⌜ r ≡ one (Masks.bit b) ⌝ }
+{
     let n = bit(b);
     [n, 0, 0, 0, 0, 0]
 }
@@ -99,6 +106,8 @@ pub(crate) fn two_vectors(v: Vec3, w: Vec3) -> [u32; 6] {
     [x, y, z, a, b, c]
 }
 
-fn bit(b: bool) -> u32 {
+fn bit(b: bool) -> u32
+    ensures { λ r. ⌜ r ≡ Masks.bit b ⌝ }
+{
     if b { 1 } else { 0 }
 }

@@ -1,5 +1,7 @@
 // The functions of BVec3, 30 to 36.
 ghost use Prim.Native.Nat.{_≤_};
+ghost use Rattle.vector.specs.Masks as Masks;
+ghost use Rattle.probe.specs.Shows.{Shows};
 use crate::answer::Answer;
 use crate::answer::INDEX;
 use crate::answer::done;
@@ -36,7 +38,7 @@ pub(crate) fn test(values: &[u32; 10]) -> Answer
 
 // A bit, or the refusal.
 fn tested(t: Tested) -> Answer
-    ensures { λ r. ⌜ r .count ≤ 6 ⌝ }
+    ensures { λ r. ⌜ Shows Masks.bit (Masks.answerOf t) r ⌝ }
 {
     let Tested::Bit(b) = t else {
         return refused(INDEX, 1);
