@@ -20,12 +20,14 @@ use Rattle.vector.specs.Optics as Optics
 use Rattle.vector.specs.Orthogonal as Orthogonal
 use Rattle.sheet.specs.declared.command.Command.{Command}
 use Rattle.sheet.specs.Rows as Rows
-use Rattle.sheet.specs.Fields as Fields
+use Rattle.sheet.specs.Commands as Commands
+use Rattle.sheet.specs.Effects as Effects
 use Rattle.sheet.specs.Results as Results
 use Rattle.sheet.specs.Refusals as Refusals
 use Rattle.sheet.specs.Answers.{ModelAnswer, refused}
+use Rattle.sheet.specs.Rows.{fresh}
 use Rattle.sheet.specs.Model as Model
-use Rattle.sheet.specs.Model.{runOf}
+use Rattle.sheet.specs.Model.{runFrom}
 
 abbrev command : ℕ → ℕ → ℕ → ℕ → ℕ → ℕ → ℕ → Command
 command n t a b u v w = record { number = n; t = t; a = a; b = b; u = u; v = v; w = w }
@@ -51,32 +53,36 @@ lastOf [] = refused 0
 lastOf (x ∷ []) = x
 lastOf (x ∷ y ∷ xs) = lastOf (y ∷ xs)
 
+-- the answers from a fresh sheet
+abbrev answersTo : List Command → List ModelAnswer
+answersTo cs = runFrom fresh cs .answers
+
 pub record Corners : Type 0 where
   -- the marked corners of scalars and of vectors
   scalars : ScalarCorners
   vectors : VectorCorners
   -- "(the point (3, 4, 0), its length, its direction) prints"
   listed :
-      runOf listing .answers
+      answersTo listing
       ≡ answer 0 0 1 1077936128 1082130432 0 ∷ answer 0 0 3 1084227584 0 0 ∷ answer 0 1 2 1058642330 1061997773 0 ∷ []
   -- "Command 2 on (2^-63, 0, 0) gives (1, 0, 0); on (2^-64, 0, 0) refusal 7."
-  short : lastOf (runOf (aimed 0x20000000 0 0) .answers) ≡ answer 0 1 2 0x3f800000 0 0
-  too-short : lastOf (runOf (aimed 0x1f800000 0 0) .answers) ≡ refused 7
+  short : lastOf (answersTo (aimed 0x20000000 0 0)) ≡ answer 0 1 2 0x3f800000 0 0
+  too-short : lastOf (answersTo (aimed 0x1f800000 0 0)) ≡ refused 7
   -- "24 on (0, 0, 1): (1, -0, -0) and (-0, 1, -0)": row t, and row t+1 by 32
-  pair : lastOf (runOf (aimed 0 0 0x3f800000 ++ (command 24 2 1 0 0 0 0 ∷ [])) .answers) ≡ answer 0 2 2 0x3f800000 0x80000000 0x80000000
+  pair : lastOf (answersTo (aimed 0 0 0x3f800000 ++ (command 24 2 1 0 0 0 0 ∷ []))) ≡ answer 0 2 2 0x3f800000 0x80000000 0x80000000
   pair-second :
-      lastOf (runOf (aimed 0 0 0x3f800000 ++ (command 24 2 1 0 0 0 0 ∷ command 32 0 3 0 0 0 0 ∷ [])) .answers) ≡ answer 0 3 2 0x80000000 0x3f800000 0x80000000
+      lastOf (answersTo (aimed 0 0 0x3f800000 ++ (command 24 2 1 0 0 0 0 ∷ command 32 0 3 0 0 0 0 ∷ []))) ≡ answer 0 3 2 0x80000000 0x3f800000 0x80000000
   -- "23 with (1, 0, 0) and (0, 1, 0): u = 1 gives (1, 0, 0); u = 2 refusal 8."
-  along : lastOf (runOf (refracted 0x3f800000) .answers) ≡ answer 0 4 2 0x3f800000 0 0
-  reflected : lastOf (runOf (refracted 0x40000000) .answers) ≡ refused 8
+  along : lastOf (answersTo (refracted 0x3f800000)) ≡ answer 0 4 2 0x3f800000 0 0
+  reflected : lastOf (answersTo (refracted 0x40000000)) ≡ refused 8
   -- "In 23, u = 4 and 0.25 don't get 5, their outer neighbours do."
-  four-taken : lastOf (runOf (refracted 0x40800000) .answers) ≡ refused 8
-  above-four : lastOf (runOf (refracted 0x40800001) .answers) ≡ refused 5
-  quarter-taken : lastOf (runOf (refracted 0x3e800000) .answers) .refusal ≡ 0
-  below-quarter : lastOf (runOf (refracted 0x3e7fffff) .answers) ≡ refused 5
+  four-taken : lastOf (answersTo (refracted 0x40800000)) ≡ refused 8
+  above-four : lastOf (answersTo (refracted 0x40800001)) ≡ refused 5
+  quarter-taken : lastOf (answersTo (refracted 0x3e800000)) .refusal ≡ 0
+  below-quarter : lastOf (answersTo (refracted 0x3e7fffff)) ≡ refused 5
 
 pub corners : Corners
-unfolding Model.runOf Model.runFrom Model.stepOf Model.applied Model.effectOf Model.taken Rows.fresh Rows.rowAt Rows.written Fields.among Fields.usesT Fields.usesA Fields.usesB Fields.usesU Fields.usesV Fields.usesW Results.givesPoint Results.givesDirection Results.givesNumber Results.givesWhole Results.directionOf Results.pointOf Results.aimOf Results.numberOf Results.wholeOf Refusals.unknown Refusals.noRow Refusals.takesDirections Refusals.badSource Refusals.outOfOrder Refusals.outOfRange Refusals.badValue Refusals.noRefraction Refusals.isNothing Refusals.noDirection Refusals.notFinite Refusals.first Refusals.refusals Refusals.refusalOf Comparisons.isFinite Normalizing.tryNormalize Normalizing.usable Products.length Products.lengthSquared Products.lengthRecip Products.dot Operators.mulNumber Operators.numberMul Operators.sub Optics.refract Optics.refractK Orthogonal.anyOrthonormalPair Sign.signum Sign.copysign Sign.abs Root.root Root.rootUnits WholeRoot.wholeRoot Exact.sizeIn Exact.negative Ieee.round Ieee.neg Ieee.div Ieee.sub Ieee.le Ieee.lt Ieee.eq Ieee.add Ieee.sum Ieee.mul Ieee.ofBits Ieee.toBits
+unfolding Model.runBy Model.stepOf Model.applied Effects.effectOf Effects.taken Effects.unlessRefused Effects.commandEffect Rows.fresh Rows.rowAt Rows.written Commands.table Commands.entryAt Commands.allows Results.directionOf Refusals.unknown Refusals.noRow Refusals.badSource Refusals.outOfOrder Refusals.outOfRange Refusals.badValue Refusals.noRefraction Refusals.isNothing Refusals.lacksDirection Refusals.noFactor Refusals.noDirection Refusals.notFinite Refusals.first Refusals.early Refusals.late Refusals.refusals Refusals.refusalOf Comparisons.isFinite Normalizing.tryNormalize Normalizing.usable Products.length Products.lengthSquared Products.lengthRecip Products.dot Operators.mulNumber Operators.numberMul Operators.sub Optics.refract Optics.refractK Orthogonal.anyOrthonormalPair Sign.signum Sign.copysign Sign.abs Root.root Root.rootUnits WholeRoot.wholeRoot Exact.sizeIn Exact.negative Ieee.round Ieee.neg Ieee.div Ieee.sub Ieee.le Ieee.lt Ieee.eq Ieee.add Ieee.sum Ieee.mul Ieee.ofBits Ieee.toBits
 corners = record {
   scalars = Scalars.corners;
   vectors = Vectors.corners;

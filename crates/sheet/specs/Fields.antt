@@ -1,54 +1,57 @@
 -- The fields of a command (document 01, "The plain sheet": "A command has a number, target t, sources a and b, values u, v, w .. Fields a command doesn't
 -- use are ignored once their form is right").
 use Prim.Native.Nat.{ℕ}
-use mathlib.Core.Bool.{Bool, true, false, cond, _&&_}
-use mathlib.Core.List.{List, [], _∷_}
-use lib.Dec.{eqb, leb}
+use mathlib.Core.Bool.{Bool, true, false}
 use lib.Ieee.{Float, binary32, ofBits}
 use Rattle.sheet.specs.declared.command.Command.{Command}
-use Rattle.sheet.specs.Rows.{ModelRow, Model, rowAt}
+use Rattle.sheet.specs.Rows.{ModelRow}
 
--- whether n is among the numbers
-unfoldable pub among : ℕ → List ℕ → Bool
-among n [] = false
-among n (k ∷ rest) = cond (eqb n k) true (among n rest)
+-- which fields a command uses
+pub record Uses : Type 0 where
+  pub t : Bool
+  pub a : Bool
+  pub b : Bool
+  pub u : Bool
+  pub v : Bool
+  pub w : Bool
 
--- 0 to 24 write row t
-unfoldable pub usesT : ℕ → Bool
-usesT n = leb n 24
+-- those that occur, by the letters of the fields
+abbrev pub usesNone : Uses
+usesNone = record { t = false; a = false; b = false; u = false; v = false; w = false }
 
--- all but 0 and 1 read row a
-unfoldable pub usesA : ℕ → Bool
-usesA n = leb 2 n && leb n 32
+abbrev pub usesT : Uses
+usesT = record { t = true; a = false; b = false; u = false; v = false; w = false }
 
--- those of two sources
-abbrev pub withB : List ℕ
-withB = 3 ∷ 4 ∷ 5 ∷ 6 ∷ 7 ∷ 9 ∷ 11 ∷ 12 ∷ 13 ∷ 14 ∷ 15 ∷ 19 ∷ 20 ∷ 22 ∷ 23 ∷ 25 ∷ 27 ∷ 28 ∷ 31 ∷ []
+abbrev pub usesTUVW : Uses
+usesTUVW = record { t = true; a = false; b = false; u = true; v = true; w = true }
 
-unfoldable pub usesB : ℕ → Bool
-usesB n = among n withB
+abbrev pub usesTA : Uses
+usesTA = record { t = true; a = true; b = false; u = false; v = false; w = false }
 
--- the values, by their names in document 01's list of commands: (u, v, w) in 1 and 9, (u, v) in 10, u in 8, 13, 14 and 23
-abbrev pub withU : List ℕ
-withU = 1 ∷ 8 ∷ 9 ∷ 10 ∷ 13 ∷ 14 ∷ 23 ∷ []
+abbrev pub usesTAU : Uses
+usesTAU = record { t = true; a = true; b = false; u = true; v = false; w = false }
 
-abbrev pub withV : List ℕ
-withV = 1 ∷ 9 ∷ 10 ∷ []
+abbrev pub usesTAUV : Uses
+usesTAUV = record { t = true; a = true; b = false; u = true; v = true; w = false }
 
-abbrev pub withW : List ℕ
-withW = 1 ∷ 9 ∷ []
+abbrev pub usesTAB : Uses
+usesTAB = record { t = true; a = true; b = true; u = false; v = false; w = false }
 
-unfoldable pub usesU : ℕ → Bool
-usesU n = among n withU
+abbrev pub usesTABU : Uses
+usesTABU = record { t = true; a = true; b = true; u = true; v = false; w = false }
 
-unfoldable pub usesV : ℕ → Bool
-usesV n = among n withV
+abbrev pub usesTABUVW : Uses
+usesTABUVW = record { t = true; a = true; b = true; u = true; v = true; w = true }
 
-unfoldable pub usesW : ℕ → Bool
-usesW n = among n withW
+abbrev pub usesA : Uses
+usesA = record { t = false; a = true; b = false; u = false; v = false; w = false }
 
--- what a command works on: the rows of its sources, which "are read before anything is written", and its values, given as bits
+abbrev pub usesAB : Uses
+usesAB = record { t = false; a = true; b = true; u = false; v = false; w = false }
+
+-- what a command works on: the number of row a, the rows of its sources, which "are read before anything is written", and its values, given as bits
 pub record Sources : Type 0 where
+  pub at : ℕ
   pub a : ModelRow
   pub b : ModelRow
   pub u : Float
@@ -56,7 +59,4 @@ pub record Sources : Type 0 where
   pub w : Float
 
 abbrev pub sourcesOf : Command → ModelRow → ModelRow → Sources
-sourcesOf c a b = record { a = a; b = b; u = ofBits binary32 (c .u); v = ofBits binary32 (c .v); w = ofBits binary32 (c .w) }
-
-abbrev pub sources : Model → Command → Sources
-sources m c = sourcesOf c (rowAt m (c .a)) (rowAt m (c .b))
+sourcesOf c a b = record { at = c .a; a = a; b = b; u = ofBits binary32 (c .u); v = ofBits binary32 (c .v); w = ofBits binary32 (c .w) }

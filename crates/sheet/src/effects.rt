@@ -8,26 +8,51 @@ ghost use lib.Ieee.{binary32, ofBits};
 ghost use Rattle.vector.specs.Vectors.{vec};
 ghost use Rattle.sheet.specs.Rows.{rowOf};
 ghost use Rattle.sheet.specs.Fields.{sourcesOf};
-ghost use Rattle.sheet.specs.Work.{workOf, effectBy};
+ghost use Rattle.sheet.specs.Results as Results;
+ghost use Rattle.sheet.specs.Effects.{effectBy, settled, lateEffect};
+use crate::codes::EMPTY;
 use crate::command::Answer;
 use crate::command::Command;
 use crate::effects::directions::direction;
 use crate::effects::directions::directions;
 use crate::effects::directions::refracted;
+use crate::effects::projections::project;
 use crate::effects::projections::projected;
-use crate::effects::projections::rejected;
+use crate::effects::projections::reject;
 use crate::effects::results::angle;
 use crate::effects::results::number;
 use crate::effects::results::point;
+use crate::effects::results::whole;
 use crate::rows::Row;
 use scalar::bits::from_bits;
 use vector::vec3::Vec3;
 
 // An answer to tell, or what to write at the target: one row, or two directions at t and t + 1.
-pub enum Action {
+pub enum Effect {
     Tell(Answer),
     Put { kind: u32, v: Vec3 },
     PutTwo { v: Vec3, w: Vec3 },
+}
+
+fn empties() -> Effect
+    ensures { λ r. ⌜ effectBy r ≡ settled Results.Empties ⌝ }
+{
+    Effect::Put {
+        kind: EMPTY,
+        v: Vec3::ZERO,
+    }
+}
+
+// Row i, as it is.
+fn shows(i: u32, row: Row) -> Effect
+    ensures { λ r. ⌜ effectBy r ≡ settled (Results.Shows i (rowOf row)) ⌝ }
+{
+    let v = row.v;
+    Effect::Tell(Answer::Shown {
+        row: i,
+        kind: row.kind,
+        v: v,
+    })
 }
 
 // The values u, v and w as a vector.
@@ -41,16 +66,13 @@ fn values(c: Command) -> Vec3
     }
 }
 
-// The command by its number, with rows a and b; refusals 8, 7 and 6 are given where they arise. 32 shows row a.
-pub fn work(c: Command, a: Row, b: Row) -> Action
-    ensures { λ r. ⌜ effectBy r ≡ workOf c (sourcesOf c (rowOf a) (rowOf b)) ⌝ }
+// The command by its number, an arm for each row of the table (specs/Commands); refusals 8, 7 and 6 are given where they arise.
+pub(crate) fn late_effect(c: Command, a: Row, b: Row) -> Effect
+    ensures { λ r. ⌜ effectBy r ≡ lateEffect c (sourcesOf c (rowOf a) (rowOf b)) ⌝ }
 {
     let n = c.number;
     match n {
-        0 => Action::Put {
-            kind: 0,
-            v: Vec3::ZERO,
-        },
+        0 => empties(),
         1 => point(values(c)),
         2 => direction(a.v),
         3 => point(a.v.add(b.v)),
@@ -61,8 +83,8 @@ pub fn work(c: Command, a: Row, b: Row) -> Action
         8 => point(a.v.mul_f32(from_bits(c.u))),
         9 => point(a.v.mul_add(b.v, values(c))),
         10 => point(a.v.clamp_length(from_bits(c.u), from_bits(c.v))),
-        11 => projected(a.v, b),
-        12 => rejected(a.v, b),
+        11 => projected(b, project(a.v, b)),
+        12 => projected(b, reject(a.v, b)),
         13 => point(a.v.lerp(b.v, from_bits(c.u))),
         14 => point(a.v.move_towards(b.v, from_bits(c.u))),
         15 => point(a.v.midpoint(b.v)),
@@ -79,16 +101,11 @@ pub fn work(c: Command, a: Row, b: Row) -> Action
         26 => number(a.v.length()),
         27 => number(a.v.distance(b.v)),
         28 => angle(a.v, b.v),
-        29 => Action::Tell(Answer::Whole(a.v.min_position())),
-        30 => Action::Tell(Answer::Whole(a.v.max_position())),
-        31 => Action::Tell(Answer::Whole(a.v.cmple(b.v).bitmask())),
-        _ => {
-            let v = a.v;
-            Action::Tell(Answer::Shown {
-                row: c.a,
-                kind: a.kind,
-                v: v,
-            })
-        }
+        29 => whole(a.v.min_position()),
+        30 => whole(a.v.max_position()),
+        31 => whole(a.v.cmple(b.v).bitmask()),
+        32 => shows(c.a, a),
+        // 2 has refused the numbers that are not in the table
+        _ => empties(),
     }
 }

@@ -1,7 +1,9 @@
-// Layer 3, the sheet: 64 rows, the commands that a planner runs on them, and their answers.
+// Layer 3, the sheet: 64 rows in words that a caller lends, the commands that a planner runs on them, and their answers.
+mod answer;
+pub mod codes;
 pub mod command;
 pub mod effects;
-pub mod refusal;
+mod refusal;
 pub mod rows;
 pub mod run;
 pub mod step;

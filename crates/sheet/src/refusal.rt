@@ -6,14 +6,24 @@ ghost use lib.Ieee as Ieee;
 ghost use lib.Ieee.{binary32};
 ghost use lib.Ieee.Scale.{finite};
 ghost use Rattle.sheet.specs.CommandSets.{inSet};
-ghost use Rattle.sheet.specs.Fields.{usesT, usesA, usesB, usesU, usesV, usesW};
-ghost use Rattle.sheet.specs.Refusals.{takesDirections, noRow, unfit, badSource, outOfOrder, outOfRange, badValue};
-ghost use Rattle.sheet.specs.Work.{earlyOf};
+ghost use Rattle.sheet.specs.Commands.{allows, entryAt};
+ghost use Rattle.sheet.specs.Refusals.{noRow, badSource, outOfOrder, outOfRange, badValue, first, early};
+use crate::codes::DIRECTION;
+use crate::codes::EMPTY;
+use crate::codes::LAST;
+use crate::codes::ROW_OUTSIDE;
+use crate::codes::UNFIT_SOURCE;
+use crate::codes::UNKNOWN_COMMAND;
+use crate::codes::VALUE_OUTSIDE;
 use crate::command::Command;
 use scalar::bits::from_bits;
 use scalar::sign::is_finite;
 
-// The commands that use b, u, v and w, each a bit.
+// The commands that use t, a, b, u, v and w, and those whose sources are directions, each a bit: columns of the table in specs/Commands.
+const USE_T: u64 = 0x01ff_ffff;
+
+const USE_A: u64 = 0x1_ffff_fffc;
+
 const USE_B: u64 = 0x9ad8_faf8;
 
 const USE_U: u64 = 0x0080_6702;
@@ -22,46 +32,52 @@ const USE_V: u64 = 0x0000_0602;
 
 const USE_W: u64 = 0x0000_0202;
 
+const DIRECTIONS: u64 = 0x01c0_0000;
+
 fn is_in(set: u64, n: u32) -> bool
     ensures { λ r. ⌜ r ≡ inSet set n ⌝ }
 {
-    if n < 33 { (set >> n) % 2 == 1 } else { false }
+    if n <= LAST {
+        (set >> n) % 2 == 1
+    } else {
+        false
+    }
+}
+
+fn uses_t(n: u32) -> bool
+    ensures { λ r. ⌜ r ≡ entryAt n .uses .t ⌝ }
+{
+    is_in(USE_T, n)
+}
+
+fn uses_a(n: u32) -> bool
+    ensures { λ r. ⌜ r ≡ entryAt n .uses .a ⌝ }
+{
+    is_in(USE_A, n)
 }
 
 fn uses_b(n: u32) -> bool
-    ensures { λ r. ⌜ r ≡ usesB n ⌝ }
+    ensures { λ r. ⌜ r ≡ entryAt n .uses .b ⌝ }
 {
     is_in(USE_B, n)
 }
 
 fn uses_u(n: u32) -> bool
-    ensures { λ r. ⌜ r ≡ usesU n ⌝ }
+    ensures { λ r. ⌜ r ≡ entryAt n .uses .u ⌝ }
 {
     is_in(USE_U, n)
 }
 
 fn uses_v(n: u32) -> bool
-    ensures { λ r. ⌜ r ≡ usesV n ⌝ }
+    ensures { λ r. ⌜ r ≡ entryAt n .uses .v ⌝ }
 {
     is_in(USE_V, n)
 }
 
 fn uses_w(n: u32) -> bool
-    ensures { λ r. ⌜ r ≡ usesW n ⌝ }
+    ensures { λ r. ⌜ r ≡ entryAt n .uses .w ⌝ }
 {
     is_in(USE_W, n)
-}
-
-fn uses_t(n: u32) -> bool
-    ensures { λ r. ⌜ r ≡ usesT n ⌝ }
-{
-    n <= 24
-}
-
-fn uses_a(n: u32) -> bool
-    ensures { λ r. ⌜ r ≡ usesA n ⌝ }
-{
-    if 2 <= n { n <= 32 } else { false }
 }
 
 // A row that is used and is none of the sheet's.
@@ -94,21 +110,15 @@ fn no_row(c: Command) -> bool
     no_next_row(c.number, c.t)
 }
 
-fn takes_directions(n: u32) -> bool
-    ensures { λ r. ⌜ r ≡ takesDirections n ⌝ }
-{
-    if 22 <= n { n <= 24 } else { false }
-}
-
-// A source that is used and is not what the command takes.
+// A source that is used and is not of a kind that the command takes.
 fn source_bad(used: bool, n: u32, kind: u32) -> bool
-    ensures { λ r. ⌜ r ≡ (used && unfit n kind) ⌝ }
+    ensures { λ r. ⌜ r ≡ (used && not (allows (entryAt n .takes) kind)) ⌝ }
 {
     if used {
-        if takes_directions(n) {
-            kind != 2
+        if is_in(DIRECTIONS, n) {
+            kind != DIRECTION
         } else {
-            kind == 0
+            kind == EMPTY
         }
     } else {
         false
@@ -190,20 +200,20 @@ fn bad_value(n: u32, u: u32, v: u32, w: u32) -> bool
 }
 
 // The number of the first of refusals 2, 3, 4 and 5 that holds, from the kinds of the sources; 0 where none does.
-pub fn refusal(c: Command, kind_a: u32, kind_b: u32) -> u32
-    ensures { λ r. ⌜ r ≡ earlyOf c «kind_a» «kind_b» ⌝ }
+pub(crate) fn refusal(c: Command, kind_a: u32, kind_b: u32) -> u32
+    ensures { λ r. ⌜ r ≡ first (early c «kind_a» «kind_b») ⌝ }
 {
-    if 32 < c.number {
-        return 2;
+    if LAST < c.number {
+        return UNKNOWN_COMMAND;
     }
     if no_row(c) {
-        return 3;
+        return ROW_OUTSIDE;
     }
     if bad_source(c.number, kind_a, kind_b) {
-        return 4;
+        return UNFIT_SOURCE;
     }
     if bad_value(c.number, c.u, c.v, c.w) {
-        return 5;
+        return VALUE_OUTSIDE;
     }
     0
 }

@@ -1,12 +1,16 @@
-// Directions as actions: a command that needs a direction takes it or refuses at that point.
+// Directions as effects: a command that needs a direction takes it or refuses at that point.
 ghost use mathlib.Core.Path.{_≡_};
-ghost use Rattle.vector.specs.Vectors.{vec};
+ghost use lib.Ieee.{lt};
+ghost use Rattle.vector.specs.Vectors.{vec, zer};
 ghost use Rattle.vector.specs.Optics as Optics;
+ghost use Rattle.sheet.specs.Codes as Codes;
 ghost use Rattle.sheet.specs.Results as Results;
-ghost use Rattle.sheet.specs.Outcomes as Outcomes;
-ghost use Rattle.sheet.specs.Work.{effectBy};
+ghost use Rattle.sheet.specs.Effects.{effectBy, settled, unless};
+use crate::codes::ALL_REFLECTED;
+use crate::codes::DIRECTION;
+use crate::codes::DIRECTION_MISSING;
 use crate::command::Answer;
-use crate::effects::Action;
+use crate::effects::Effect;
 use scalar::sign::is_finite;
 use vector::vec3::Vec3;
 use vector::vec3::normalizing::Normalized;
@@ -32,33 +36,36 @@ fn direction_of_numbers(x: f32, y: f32, z: f32) -> Normalized
 }
 
 // "Direction of" a vector: none where its squared length is below 2^-126 or not finite.
-pub(crate) fn direction_of(v: Vec3) -> Normalized
+fn direction_of(v: Vec3) -> Normalized
     ensures { λ r. ⌜ r ≡ Results.directionOf v ⌝ }
 {
     direction_of_numbers(v.x, v.y, v.z)
 }
 
 // The direction of v as a row, or refusal 7.
-pub(crate) fn direction(v: Vec3) -> Action
-    ensures { λ r. ⌜ effectBy r ≡ Outcomes.directionDone v ⌝ }
+pub(crate) fn direction(v: Vec3) -> Effect
+    ensures { λ r. ⌜ effectBy r ≡ settled (Results.Aim v) ⌝ }
 {
     let Normalized::Unit(d) = direction_of(v) else {
-        return Action::Tell(Answer::Refused(7));
+        return Effect::Tell(Answer::Refused(DIRECTION_MISSING));
     };
-    Action::Put { kind: 2, v: d }
+    Effect::Put {
+        kind: DIRECTION,
+        v: d,
+    }
 }
 
 // The directions of two vectors, or refusal 7 where either has none.
-pub(crate) fn directions(p: Pair) -> Action
-    ensures { λ r. ⌜ effectBy r ≡ Outcomes.pairDone p ⌝ }
+pub(crate) fn directions(p: Pair) -> Effect
+    ensures { λ r. ⌜ effectBy r ≡ settled (Results.Aims (p .first) (p .second)) ⌝ }
 {
     let Normalized::Unit(d) = direction_of(p.first) else {
-        return Action::Tell(Answer::Refused(7));
+        return Effect::Tell(Answer::Refused(DIRECTION_MISSING));
     };
     let Normalized::Unit(e) = direction_of(p.second) else {
-        return Action::Tell(Answer::Refused(7));
+        return Effect::Tell(Answer::Refused(DIRECTION_MISSING));
     };
-    Action::PutTwo { v: d, w: e }
+    Effect::PutTwo { v: d, w: e }
 }
 
 // `refract`'s k: what is below the root.
@@ -70,11 +77,11 @@ fn refract_k(a: Vec3, normal: Vec3, eta: f32) -> f32
 }
 
 // The direction of the refraction, or refusal 8 where all is reflected, then 7.
-pub(crate) fn refracted(a: Vec3, normal: Vec3, eta: f32) -> Action
-    ensures { λ r. ⌜ effectBy r ≡ Outcomes.refractDone a normal eta ⌝ }
+pub(crate) fn refracted(a: Vec3, normal: Vec3, eta: f32) -> Effect
+    ensures { λ r. ⌜ effectBy r ≡ unless Codes.allReflected (lt (Optics.refractK a normal eta) zer) (settled (Results.Aim (Optics.refract a normal eta))) ⌝ }
 {
     if refract_k(a, normal, eta) < 0.0 {
-        Action::Tell(Answer::Refused(8))
+        Effect::Tell(Answer::Refused(ALL_REFLECTED))
     } else {
         direction(a.refract(normal, eta))
     }

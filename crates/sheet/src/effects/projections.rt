@@ -1,53 +1,58 @@
-// Projections as actions: the `_normalized` function where b is a direction.
+// Projections: the `_normalized` function where b is a direction.
 ghost use mathlib.Core.Path.{_≡_};
+ghost use mathlib.Core.Bool.{cond};
 ghost use Rattle.vector.specs.Projections as Projections;
+ghost use Rattle.sheet.specs.Codes as Codes;
 ghost use Rattle.sheet.specs.Rows.{rowOf};
 ghost use Rattle.sheet.specs.Results as Results;
-ghost use Rattle.sheet.specs.Outcomes as Outcomes;
-ghost use Rattle.sheet.specs.Work.{effectBy};
+ghost use Rattle.sheet.specs.Refusals as Refusals;
+ghost use Rattle.sheet.specs.Effects.{effectBy, settled, unless};
+use crate::codes::DIRECTION;
+use crate::codes::DIRECTION_MISSING;
+use crate::codes::POINT;
 use crate::command::Answer;
-use crate::effects::Action;
+use crate::effects::Effect;
 use crate::effects::results::point;
 use crate::rows::Row;
 use scalar::sign::is_finite;
 use vector::vec3::Vec3;
 
-// Whether a row of this kind is a direction.
-fn is_direction(kind: u32) -> bool
-    ensures { λ r. ⌜ r ≡ Results.isDirection kind ⌝ }
+// The projection of a onto b.
+pub(crate) fn project(a: Vec3, b: Row) -> Vec3
+    ensures { λ r. ⌜ r ≡ cond (Results.isDirection (b .kind)) (Projections.projectOntoNormalized a (b .v)) (Projections.projectOnto a (b .v)) ⌝ }
 {
-    kind == 2
+    if b.kind == DIRECTION {
+        a.project_onto_normalized(b.v)
+    } else {
+        a.project_onto(b.v)
+    }
+}
+
+// The rejection of a from b.
+pub(crate) fn reject(a: Vec3, b: Row) -> Vec3
+    ensures { λ r. ⌜ r ≡ cond (Results.isDirection (b .kind)) (Projections.rejectFromNormalized a (b .v)) (Projections.rejectFrom a (b .v)) ⌝ }
+{
+    if b.kind == DIRECTION {
+        a.reject_from_normalized(b.v)
+    } else {
+        a.reject_from(b.v)
+    }
 }
 
 // Whether b is a point and 1/(b·b) not finite.
 fn no_factor(b: Row) -> bool
-    ensures { λ r. ⌜ r ≡ Outcomes.noFactor (rowOf b) ⌝ }
+    ensures { λ r. ⌜ r ≡ Refusals.noFactor (rowOf b) ⌝ }
 {
-    b.kind == 1 && !is_finite(1.0 / b.v.dot(b.v))
+    b.kind == POINT && !is_finite(1.0 / b.v.dot(b.v))
 }
 
-// The projection of a onto b, or refusal 7, then 6.
-pub(crate) fn projected(a: Vec3, b: Row) -> Action
-    ensures { λ r. ⌜ effectBy r ≡ Outcomes.projectionDone (rowOf b) (Projections.projectOntoNormalized a (b .v)) (Projections.projectOnto a (b .v)) ⌝ }
+// The point v, which a projection to b gave, or refusal 7, then 6.
+pub(crate) fn projected(b: Row, v: Vec3) -> Effect
+    ensures { λ r. ⌜ effectBy r ≡ unless Codes.directionMissing (Refusals.noFactor (rowOf b)) (settled (Results.Point v)) ⌝ }
 {
-    if is_direction(b.kind) {
-        return point(a.project_onto_normalized(b.v));
-    }
     if no_factor(b) {
-        return Action::Tell(Answer::Refused(7));
+        Effect::Tell(Answer::Refused(DIRECTION_MISSING))
+    } else {
+        point(v)
     }
-    point(a.project_onto(b.v))
-}
-
-// The rejection of a from b, or refusal 7, then 6.
-pub(crate) fn rejected(a: Vec3, b: Row) -> Action
-    ensures { λ r. ⌜ effectBy r ≡ Outcomes.projectionDone (rowOf b) (Projections.rejectFromNormalized a (b .v)) (Projections.rejectFrom a (b .v)) ⌝ }
-{
-    if is_direction(b.kind) {
-        return point(a.reject_from_normalized(b.v));
-    }
-    if no_factor(b) {
-        return Action::Tell(Answer::Refused(7));
-    }
-    point(a.reject_from(b.v))
 }

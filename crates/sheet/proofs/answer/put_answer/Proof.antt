@@ -1,8 +1,8 @@
--- `sheet::run::put_answer` meets its contract. Assumes nothing.
+-- `sheet::answer::put_answer` meets its contract. Assumes nothing.
 use Rattle.sheet.specs.Answers.{answerOf}
 use borrow.Author.Needs.{needs}
-use Rattle.sheet.proofs.run.put_answer.Statement.{statement}
-use Rattle.sheet.proofs.run.put_answer.Tie as tie
+use Rattle.sheet.proofs.answer.put_answer.Statement.{statement}
+use Rattle.sheet.proofs.answer.put_answer.Tie as tie
 
 enum-known-x : tie.Need-enum-known-x
 enum-known-x c = search needs

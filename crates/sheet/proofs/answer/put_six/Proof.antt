@@ -1,10 +1,10 @@
--- `sheet::run::put_six` meets its contract. Assumes nothing.
+-- `sheet::answer::put_six` meets its contract. Assumes nothing.
 use lib.ListN.{length-set}
 use native.Mathlib.Omega.{arith}
 use native.Mathlib.Numerals.{towards-suc}
 use borrow.Author.Needs.{needs}
-use Rattle.sheet.proofs.run.put_six.Statement.{statement}
-use Rattle.sheet.proofs.run.put_six.Tie as tie
+use Rattle.sheet.proofs.answer.put_six.Statement.{statement}
+use Rattle.sheet.proofs.answer.put_six.Tie as tie
 
 mul-out : tie.Need-mul-out
 mul-out c = search needs
