@@ -1,5 +1,5 @@
 -- A field gives a number exactly if it is blanks and that number's numeral. Assumes nothing.
-use Prim.Native.Nat.{ℕ, zero, suc, _≤_, _<_}
+use Prim.Native.Nat.{ℕ, zero, suc, _+_, _≤_, _<_}
 use mathlib.Core.Bool.{Bool, true, false, cond, _&&_}
 use mathlib.Core.Path.{_≡_, refl, sym}
 use mathlib.Core.List.{List, [], _∷_, _++_}
@@ -9,7 +9,7 @@ use lib.Dec.{eqb, ltb, leb}
 use lib.ListN.{length, getD, replicate}
 use Rattle.lines.specs.declared.field.Reading.{Reading}
 use Rattle.lines.specs.declared.field.Reading.the-variants.{Value, Ill}
-use Rattle.lines.specs.Field.{digits, isDigit, decimal, valueFrom, value, leadingZero, number}
+use Rattle.lines.specs.Field.{digits, isDigit, decimal, valueFrom, limit, value, leadingZero, number}
 use Rattle.lines.specs.FieldMeaning.{Numeral, IsField, ReadsFields}
 
 -- ---- digits
@@ -23,6 +23,20 @@ digit-range b h = go (leb 48 b) refl h
     go : (x : Bool) → leb 48 b ≡ x → x && leb b 57 ≡ true → (48 ≤ b) × (b ≤ 57)
     go true e h = (leb-true 48 b e, leb-true b 57 h)
     go false e h = absurd (no (sym h))
+
+pub digit-is : (b a : ℕ) → b ≡ 48 + a → a ≤ 9 → isDigit b ≡ true
+digit-is b a e h =
+    let lo : 48 ≤ b = omega arith in
+    let hi : b ≤ 57 = omega arith in
+    rw (le-leb _ _ lo, le-leb _ _ hi) refl
+
+pub no-digit : (b : ℕ) → (48 ≤ b → b ≤ 57 → ⊥) → isDigit b ≡ false
+no-digit b h = go (leb 48 b) (leb b 57) refl refl
+  where
+    go : (x y : Bool) → leb 48 b ≡ x → leb b 57 ≡ y → isDigit b ≡ false
+    go true true p q = absurd (h (leb-true 48 b p) (leb-true b 57 q))
+    go true false p q = rw (p, q) refl
+    go false y p q = rw p refl
 
 pub and-false : (x : Bool) → x && false ≡ false
 and-false true = refl
@@ -57,11 +71,12 @@ numeral-no-zero ds n h = go (eqb (getD ds 0 0) 48) refl
     go true e = rw (h .zero-alone (eqb-true _ _ e)) refl
     go false e = rw e (and-false (ltb 1 (length ds)))
 
-numeral-read : (ds : List ℕ) (n : ℕ) → Numeral ds n → n ≤ 4294967295 → number ds ≡ Value n
+pub numeral-read : (ds : List ℕ) (n : ℕ) → Numeral ds n → n ≤ 4294967295 → number ds ≡ Value n
 unfolding number value
 numeral-read ds n h s =
     let ne : length ds ≡ 0 → ⊥ = λ e. omega (arith, e, h .some-digit) in
-    rw (ne-eqb _ _ ne, numeral-no-zero ds n h, h .decimals, h .value, le-leb _ _ s) refl
+    let fits : n ≤ limit = omega arith in
+    rw (ne-eqb _ _ ne, numeral-no-zero ds n h, h .decimals, h .value, le-leb _ _ fits) refl
 
 pub field-read : (l : List ℕ) (n : ℕ) → IsField l n → number (digits l) ≡ Value n
 field-read l n h =
@@ -92,11 +107,11 @@ read-numeral ds n e =
     let some = not-ill (eqb (length ds) 0) _ n e in
     let front = not-ill (leadingZero ds) _ n (some .1) in
     let all = well (decimal ds) _ n (front .1) in
-    let small = well (leb (valueFrom 0 ds) 4294967295) _ n (all .1) in
+    let small = well (leb (valueFrom 0 ds) limit) _ n (all .1) in
     let is : valueFrom 0 ds ≡ n = cc in
     let ne : length ds ≡ 0 → ⊥ = eqb-false _ _ (some .0) in
     let s : 0 < length ds = omega arith in
-    (record { decimals = all .0; some-digit = s; zero-alone = alone ds s (front .0); value = is }, omega (arith, leb-true (valueFrom 0 ds) 4294967295 (small .0), is))
+    (record { decimals = all .0; some-digit = s; zero-alone = alone ds s (front .0); value = is }, omega (arith, leb-true (valueFrom 0 ds) limit (small .0), is))
 
 pub read-field : (l : List ℕ) (n : ℕ) → number (digits l) ≡ Value n → IsField l n
 unfolding digits

@@ -1,18 +1,19 @@
 -- Reading a field: the blanks before its digits, and the number of digits that are read one by one. Assumes nothing.
-use Prim.Native.Nat.{ℕ, suc, _+_, _*_, _-_, _^_, _≤_, _<_}
+use Prim.Native.Nat.{ℕ, suc, _+_, _*_, _-_, _%_, _^_, _≤_, _<_}
 use mathlib.Core.Bool.{Bool, true, false, cond}
-use mathlib.Core.Path.{_≡_, refl, sym, _∙_}
+use mathlib.Core.Path.{_≡_, refl, sym, ap, _∙_}
 use mathlib.Core.List.{List, [], _∷_}
 use native.Mathlib.Omega.{arith}
 use native.Mathlib.Numerals.{add-one}
 use native.Mathlib.Nat.{pow-suc, pow-le-pow-right, mul-le-mul-right, mul-assoc, mul-comm, le-trans}
 use lib.Dec.{ltb}
-use borrow.Author.Tests.{ltb-true, ltb-false, eq-eqb, ne-eqb, lt-ltb, le-leb, lt-leb}
+use borrow.Author.Tests.{ltb-true, ltb-false, eq-eqb, ne-eqb, lt-ltb, lt-leb}
 use lib.ListN.{length, getD, take, drop, drop-of-length-le, length-drop}
 use lib.Seq.{drop-cons, take-all}
 use Rattle.lines.specs.declared.field.Reading.the-variants.{Ill}
-use Rattle.lines.specs.Field.{digits, decimal, valueFrom, value, leadingZero}
-use Rattle.lines.specs.ColumnParts.{limited}
+use Rattle.lines.specs.Field.{digits, isDigit, decimal, valueFrom, limit, value, leadingZero}
+use Rattle.lines.specs.ColumnParts.{limited, DigitValue}
+use Rattle.lines.proofs.FieldMeaningLaws.{digit-is, no-digit}
 
 -- ---- blanks
 
@@ -34,6 +35,10 @@ part-from l i = take-all (length l - i) (drop i l) (omega (arith, length-drop i 
 
 -- ---- digits
 
+-- a byte less 48, modulo 2^64
+pub digit-value : (b r : ℕ) → r < 2 ^ 64 → (r + 48) % 2 ^ 64 ≡ b → DigitValue b r
+digit-value b r h e = record { digit = λ p. omega arith; other = λ p. no-digit b (λ lo hi. omega arith) }
+
 -- what is known of digits of which i are read, and gave n
 pub record Reads (l : List ℕ) (n i : ℕ) : Type 0 where
   pub within : i ≤ length l
@@ -49,31 +54,27 @@ pub reads-below : (l : List ℕ) (n i : ℕ) → Reads l n i → i ≤ 9 → n <
 reads-below l n i h k = let p : 10 ^ i ≤ 10 ^ 9 = pow-le-pow-right {n = 10} (omega arith) k in omega (arith, h .below)
 
 module _ (l : List ℕ) (n i : ℕ) (h : Reads l n i) (lt : i < length l) where
-  pub reads-more : 48 ≤ getD l i 0 → getD l i 0 ≤ 57 → Reads l (n * 10 + (getD l i 0 - 48)) (i + 1)
+  pub reads-more : (a : ℕ) → getD l i 0 ≡ 48 + a → a ≤ 9 → Reads l (n * 10 + a) (i + 1)
   unfolding decimal valueFrom
-  reads-more p q =
+  reads-more a e q =
+      let next : n * 10 + (getD l i 0 - 48) ≡ n * 10 + a = omega arith in
       record {
         within = omega arith;
         below = rw (add-one i) (omega (arith, pow-suc 10 i, h .below));
-        decimals = h .decimals ∙ rw (add-one i, drop-cons l i 0 lt, le-leb _ _ p, le-leb _ _ q);
-        number = h .number ∙ rw (add-one i, drop-cons l i 0 lt);
+        decimals = h .decimals ∙ rw (add-one i, drop-cons l i 0 lt, digit-is _ a e q);
+        number = h .number ∙ rw (add-one i, drop-cons l i 0 lt) (ap (λ (m : ℕ). valueFrom m (drop (suc i) l)) next);
       }
 
-  pub reads-low : getD l i 0 < 48 → Ill ≡ value l
+  pub reads-other : isDigit (getD l i 0) ≡ false → Ill ≡ value l
   unfolding decimal value
-  reads-low p = rw (h .decimals, drop-cons l i 0 lt, lt-leb _ _ p)
-
-  pub reads-high : 57 < getD l i 0 → Ill ≡ value l
-  unfolding decimal value
-  reads-high p = let q : 48 ≤ getD l i 0 = omega arith in rw (h .decimals, drop-cons l i 0 lt, le-leb _ _ q, lt-leb _ _ p)
+  reads-other e = rw (h .decimals, drop-cons l i 0 lt, e)
 
 -- two digits
-pub reads-two : (l : List ℕ) (n i a b : ℕ) → Reads l n i → i + 1 < length l → a ≡ getD l i 0 → b ≡ getD l (i + 1) 0
-    → 48 ≤ a → a ≤ 57 → 48 ≤ b → b ≤ 57 → Reads l ((n * 10 + (a - 48)) * 10 + (b - 48)) (i + 2)
-reads-two l n i a b h lt is-a is-b p q r s =
+pub reads-two : (l : List ℕ) (n i a b : ℕ) → Reads l n i → i + 1 < length l → getD l i 0 ≡ 48 + a → a ≤ 9 → getD l (i + 1) 0 ≡ 48 + b → b ≤ 9
+    → Reads l ((n * 10 + a) * 10 + b) (i + 2)
+reads-two l n i a b h lt is-a p is-b q =
     let two : i + 2 ≡ i + 1 + 1 = omega arith in
-    let first : Reads l (n * 10 + (getD l i 0 - 48)) (i + 1) = reads-more l n i h (omega arith) (omega arith) (omega arith) in
-    rw (two, is-a, is-b) (reads-more l (n * 10 + (getD l i 0 - 48)) (i + 1) first lt (omega arith) (omega arith))
+    rw two (reads-more l (n * 10 + a) (i + 1) (reads-more l n i h (omega arith) a is-a p) lt b is-b q)
 
 -- no digit is left
 pub reads-all : (l : List ℕ) (n i : ℕ) → Reads l n i → length l ≤ i → limited n ≡ value l
@@ -97,7 +98,7 @@ value-scaled n (b ∷ l) =
     let e : n * 10 ^ suc (length l) ≡ n * 10 * 10 ^ length l = rw (pow-suc 10 (length l), mul-comm (10 ^ length l) 10) (sym (mul-assoc n 10 (10 ^ length l))) in
     rw e (le-trans s (value-scaled (n * 10 + (b - 48)) l))
 
-ten-more : (n : ℕ) (l : List ℕ) → 0 < n → 10 ≤ length l → 4294967295 < valueFrom n l
+ten-more : (n : ℕ) (l : List ℕ) → 0 < n → 10 ≤ length l → limit < valueFrom n l
 ten-more n l p q =
     let t : 10 ^ 10 ≤ 10 ^ length l = pow-le-pow-right {n = 10} (omega arith) q in
     let s : 1 * 10 ^ length l ≤ n * 10 ^ length l = mul-le-mul-right (10 ^ length l) p in
@@ -127,5 +128,5 @@ long-ill (b ∷ l) p q = go (ltb b 49) refl
         rw (lt-leb _ _ lo)
     go false e =
         let hi : 49 ≤ b = ltb-false b 49 e in
-        let v : 4294967295 < valueFrom (0 * 10 + (b - 48)) l = ten-more (0 * 10 + (b - 48)) l (omega arith) (omega arith) in
+        let v : limit < valueFrom (0 * 10 + (b - 48)) l = ten-more (0 * 10 + (b - 48)) l (omega arith) (omega arith) in
         rw (lt-leb _ _ v) (sym (cond-same (decimal (b ∷ l)) Ill))

@@ -32,8 +32,7 @@ spelt-pair w n f i rest h g =
 
 -- the five pairs and the blank
 pub ten-written : (f : List ℕ) (n : ℕ) → length f ≡ 11 → 1000000000 ≤ n → n < 4294967296
-    → set (pair (pair (pair (pair (pair f 9 (n % 100)) 7 (n / 100 % 100)) 5 (n / 10000 % 100)) 3 (n / 1000000 % 100)) 1 (n / 100000000)) 0 32 ≡ written 11 n
-unfolding glyph
+    → set (pair (pair (pair (pair (pair f 9 (n % 100)) 7 (n / 100 % 100)) 5 (n / 10000 % 100)) 3 (n / 1000000 % 100)) 1 (n / 100000000)) 0 (glyph 0) ≡ written 11 n
 ten-written f n e g u =
     let b : n / 100 / 100 ≡ n / 10000 = omega arith in
     let c : n / 10000 / 100 ≡ n / 1000000 = omega arith in

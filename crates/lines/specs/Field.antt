@@ -31,9 +31,13 @@ unfoldable pub valueFrom : ℕ → List ℕ → ℕ
 valueFrom n [] = n
 valueFrom n (b ∷ l) = valueFrom (n * 10 + (b - 48)) l
 
--- decimal digits, "ill formed above 4294967295"
+-- "ill formed above 4294967295"
+abbrev pub limit : ℕ
+limit = 4294967295
+
+-- decimal digits of a number up to the limit
 unfoldable pub value : List ℕ → Reading
-value l = cond (decimal l) (cond (leb (valueFrom 0 l) 4294967295) (Value (valueFrom 0 l)) Ill) Ill
+value l = cond (decimal l) (cond (leb (valueFrom 0 l) limit) (Value (valueFrom 0 l)) Ill) Ill
 
 -- a zero with digits after it
 unfoldable pub leadingZero : List ℕ → Bool

@@ -53,7 +53,7 @@ fn field_of_3(line: &[u8], at: usize) -> Reading
     ensures { λ r. ⌜ r ≡ Columns.fieldAt at 3 (now (line .entry)) ⌝ }
 {
     let end = at + 3;
-    narrow::number(&line[at..end])
+    narrow::number(narrow::digits(&line[at..end]))
 }
 
 // The number of the eleven columns from `at` on. The width is a constant, so that the loops over it are unrolled.

@@ -4,6 +4,7 @@ ghost use Prim.Native.Nat.{_+_, _/_, _%_, _≤_, _<_};
 ghost use lib.ListN.{length, set};
 ghost use Rattle.lines.specs.Field as Field;
 ghost use Rattle.lines.specs.ColumnParts as ColumnParts;
+use std::num::wrapping_sub_u64;
 
 // The number that a field's digits give, or the word that they are ill formed.
 pub enum Reading {
@@ -52,7 +53,7 @@ fn leading_zero(digits: &[u8]) -> bool
     }
 }
 
-// The number of at most ten digits, the bytes 48 to 57, two in a turn. It is below 10^10, so that the limit is tested once, at the end.
+// The number of at most ten digits, two in a turn. It is below 10^10, so that the limit is tested once, at the end.
 fn value(digits: &[u8]) -> Reading
     requires { ⌜ length (now digits) ≤ 10 ⌝ }
     ensures { λ r. ⌜ r ≡ Field.value (now (digits .entry)) ⌝ }
@@ -60,32 +61,23 @@ fn value(digits: &[u8]) -> Reading
     let mut n: u64 = 0;
     let mut i: usize = 0;
     while i + 1 < digits.len() {
-        let a = wide(digits[i]);
-        if a < 48 {
+        let a = digit(digits[i]);
+        if 9 < a {
             return Reading::Ill;
         }
-        if 57 < a {
+        let b = digit(digits[i + 1]);
+        if 9 < b {
             return Reading::Ill;
         }
-        let b = wide(digits[i + 1]);
-        if b < 48 {
-            return Reading::Ill;
-        }
-        if 57 < b {
-            return Reading::Ill;
-        }
-        n = (n * 10 + (a - 48)) * 10 + (b - 48);
+        n = (n * 10 + a) * 10 + b;
         i += 2;
     }
     if i < digits.len() {
-        let last = wide(digits[i]);
-        if last < 48 {
+        let last = digit(digits[i]);
+        if 9 < last {
             return Reading::Ill;
         }
-        if 57 < last {
-            return Reading::Ill;
-        }
-        return limited(n * 10 + (last - 48));
+        return limited(n * 10 + last);
     }
     limited(n)
 }
@@ -100,10 +92,11 @@ fn limited(n: u64) -> Reading
     Reading::Value(n as u32)
 }
 
-fn wide(b: u8) -> u64
-    ensures { λ r. ⌜ r ≡ b ⌝ }
+// The value of a decimal digit, and a number above 9 for any other byte: below 48 the difference wraps.
+pub(crate) fn digit(b: u8) -> u64
+    ensures { λ r. ⌜ ColumnParts.DigitValue b r ⌝ }
 {
-    b as u64
+    wrapping_sub_u64(b as u64, 48)
 }
 
 // Writes the number, right-justified after blanks. A field with fewer columns than the number has digits gets its last digits.

@@ -1,6 +1,9 @@
 -- `lines::command_line::field_of_3` meets its contract. Assumes nothing.
-use mathlib.Core.Path.{_∙_}
+use mathlib.Core.Path.{ap, _∙_}
+use native.Mathlib.Nat.{le-trans, le-of-eq}
+use Rattle.lines.specs.Field.{number}
 use Rattle.lines.proofs.ColumnLaws.{read-part}
+use Rattle.lines.proofs.NarrowLaws.{fewer-digits}
 use borrow.Author.Needs.{needs}
 use Rattle.lines.proofs.command_line.field_of_3.Statement.{statement}
 use Rattle.lines.proofs.command_line.field_of_3.Tie as tie
@@ -8,22 +11,34 @@ use Rattle.lines.proofs.command_line.field_of_3.Tie as tie
 add-end : tie.Need-add-end
 add-end c = search needs
 
-sub-number : tie.Need-sub-number
-sub-number c = search needs
+sub-digits : tie.Need-sub-digits
+sub-digits c = search needs
 
-part-number-start : tie.Need-part-number-start
-part-number-start c = search needs
+part-digits-start : tie.Need-part-digits-start
+part-digits-start c = search needs
 
-part-number-end : tie.Need-part-number-end
-part-number-end c = search needs
+part-digits-end : tie.Need-part-digits-end
+part-digits-end c = search needs
+
+digits-requires : tie.Need-digits-requires
+digits-requires c κs = search needs
 
 number-requires : tie.Need-number-requires
-number-requires c κs = search needs
+number-requires c κs = rw (c .digits .ensures) (le-trans (fewer-digits _) (le-of-eq (digits-requires (c .before) (c .digits .lifetimes))))
 
 returns : tie.Need-returns
-returns c = c .number .ensures ∙ read-part (c .before .before .before .args .at) 3 (c .before .before .before .args .line .now)
+returns c =
+    c .number .ensures
+    ∙ (ap number (c .before .digits .ensures) ∙ read-part (c .before .before .before .before .args .at) 3 (c .before .before .before .before .args .line .now))
 
 pub field-of-3-spec : {M : Type 1} → statement M
 field-of-3-spec =
     tie.close
-    (tie.spec add-end sub-number part-number-start part-number-end number-requires returns)
+    (tie.spec
+    add-end
+    sub-digits
+    part-digits-start
+    part-digits-end
+    digits-requires
+    number-requires
+    returns)

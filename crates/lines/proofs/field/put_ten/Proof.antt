@@ -2,6 +2,7 @@
 use mathlib.Core.Path.{ap, sym, _∙_}
 use native.Mathlib.Omega.{arith}
 use lib.ListN.{length}
+use Rattle.lines.specs.Field.{glyph}
 use Rattle.lines.proofs.WriteLaws.{length-written}
 use Rattle.lines.proofs.TenDigitLaws.{ten-written}
 use borrow.Author.Needs.{needs}
@@ -27,6 +28,7 @@ slice-write-field : tie.Need-slice-write-field
 slice-write-field c = search needs
 
 returns : tie.Need-returns
+unfolding glyph
 returns c =
     rw (
       c .before .before .put-pair5 .ensures,

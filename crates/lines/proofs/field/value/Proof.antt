@@ -1,9 +1,9 @@
--- `lines::field::value` meets its contract. Assumes nothing.
-use Prim.Native.Nat.{_-_}
+-- `lines::field::value` meets its contract. The first i digits are read and gave n; each turn leaves fewer digits. Assumes nothing.
+use Prim.Native.Nat.{_-_, _<_}
 use mathlib.Core.Path.{_∙_}
 use native.Mathlib.Omega.{arith}
 use lib.ListN.{length}
-use Rattle.lines.proofs.ReadLaws.{Reads, reads-none, reads-below, reads-more, reads-two, reads-low, reads-high, reads-all}
+use Rattle.lines.proofs.ReadLaws.{Reads, reads-none, reads-below, reads-more, reads-two, reads-other, reads-all}
 use borrow.Author.Needs.{needs}
 use Rattle.lines.proofs.field.value.Statement.{statement}
 use Rattle.lines.proofs.field.value.Tie as tie
@@ -14,120 +14,107 @@ Inv-loop digits n₀ i₀ n i = Reads digits n i
 abbrev μ-loop : tie.MeasureT-loop
 μ-loop digits n₀ i₀ n i = length digits - i
 
+-- the number in the loop and after it, where a digit more is left
+small : (c : tie.Else2 Inv-loop μ-loop) → c .before .before .before .before .before .before .before .loop .n < 1000000000
+small c =
+    let at-loop-test = c .before .before .before .before .before .before in
+    let at-loop = at-loop-test .before in
+    reads-below _ _ _ (at-loop .loop .inv) (omega (arith, at-loop .before .before .pre, at-loop-test .loop-test .taken))
+
+small-last : (c : tie.Else4 Inv-loop μ-loop) → c .before .before .before .before .before .loop .n < 1000000000
+small-last c =
+    let at-if3 = c .before .before .before in
+    let at-loop = at-if3 .before .before in
+    reads-below _ _ _ (at-loop .loop .inv) (omega (arith, at-loop .before .before .pre, at-if3 .if3 .taken))
+
 loop-holds : tie.Need-loop-holds Inv-loop μ-loop
 loop-holds c = reads-none _
 
 add-loop : tie.Need-add-loop Inv-loop μ-loop
 add-loop c = omega (arith, c .loop .inv .within)
 
-shared-slice-read-wide : tie.Need-shared-slice-read-wide Inv-loop μ-loop
-shared-slice-read-wide c = omega (arith, c .before .loop-test .taken)
+shared-slice-read-digit : tie.Need-shared-slice-read-digit Inv-loop μ-loop
+shared-slice-read-digit c = omega (arith, c .before .loop-test .taken)
 
-wide-requires : tie.Need-wide-requires Inv-loop μ-loop
-wide-requires c κs = search needs
+digit-requires : tie.Need-digit-requires Inv-loop μ-loop
+digit-requires c κs = search needs
 
 returns : tie.Need-returns Inv-loop μ-loop
-returns c = reads-low _ _ _ (c .before .before .before .before .loop .inv) (omega (arith, c .before .before .before .loop-test .taken)) (omega arith)
+returns c = reads-other _ _ _ (c .before .before .before .before .loop .inv) (omega (arith, c .before .before .before .loop-test .taken)) (c .before .digit .ensures .other (omega arith))
+
+add-digit : tie.Need-add-digit Inv-loop μ-loop
+add-digit c = omega (arith, c .before .before .before .before .loop .inv .within)
+
+shared-slice-read-digit-2 : tie.Need-shared-slice-read-digit-2 Inv-loop μ-loop
+shared-slice-read-digit-2 c = omega (arith, c .before .before .before .before .loop-test .taken)
+
+digit-requires-2 : tie.Need-digit-requires-2 Inv-loop μ-loop
+digit-requires-2 c κs = search needs
 
 returns-2 : tie.Need-returns-2 Inv-loop μ-loop
-returns-2 c = reads-high _ _ _ (c .before .before .before .before .before .loop .inv) (omega (arith, c .before .before .before .before .loop-test .taken)) (omega arith)
-
-add-wide : tie.Need-add-wide Inv-loop μ-loop
-add-wide c = omega (arith, c .before .before .before .before .before .loop .inv .within)
-
-shared-slice-read-wide-2 : tie.Need-shared-slice-read-wide-2 Inv-loop μ-loop
-shared-slice-read-wide-2 c = omega (arith, c .before .before .before .before .before .loop-test .taken)
-
-wide-requires-2 : tie.Need-wide-requires-2 Inv-loop μ-loop
-wide-requires-2 c κs = search needs
-
-returns-3 : tie.Need-returns-3 Inv-loop μ-loop
-returns-3 c =
-    let at-loop-test = c .before .before .before .before .before .before .before in
-    let at-loop = at-loop-test .before in
-    reads-low _ _ _ (reads-more _ _ _ (at-loop .loop .inv) (omega (arith, at-loop-test .loop-test .taken)) (omega arith) (omega arith)) (at-loop-test .loop-test .taken) (omega arith)
-
-returns-4 : tie.Need-returns-4 Inv-loop μ-loop
-returns-4 c =
-    let at-loop-test = c .before .before .before .before .before .before .before .before in
-    let at-loop = at-loop-test .before in
-    reads-high _ _ _ (reads-more _ _ _ (at-loop .loop .inv) (omega (arith, at-loop-test .loop-test .taken)) (omega arith) (omega arith)) (at-loop-test .loop-test .taken) (omega arith)
+returns-2 c =
+    let at-if1 = c .before .before .before in
+    let at-loop-test = at-if1 .before .before .before in
+    let more = reads-more _ _ _ (at-loop-test .before .loop .inv) (omega (arith, at-loop-test .loop-test .taken)) _ (at-if1 .before .digit .ensures .digit (omega arith)) (omega arith) in
+    reads-other _ _ _ more (at-loop-test .loop-test .taken) (c .before .digit2 .ensures .other (omega arith))
 
 mul-n : tie.Need-mul-n Inv-loop μ-loop
-mul-n c =
-    let at-loop-test = c .before .before .before .before .before .before .before .before in
-    let at-loop = at-loop-test .before in
-    let at-pre = at-loop .before .before in
-    let k = reads-below _ _ _ (at-loop .loop .inv) (omega (arith, at-pre .pre, at-loop-test .loop-test .taken)) in omega arith
+mul-n c = omega (arith, small c)
 
 add-n : tie.Need-add-n Inv-loop μ-loop
-add-n c =
-    let at-loop-test = c .before .before .before .before .before .before .before .before in
-    let at-loop = at-loop-test .before in
-    let at-pre = at-loop .before .before in
-    let k = reads-below _ _ _ (at-loop .loop .inv) (omega (arith, at-pre .pre, at-loop-test .loop-test .taken)) in omega arith
+add-n c = omega (arith, small c)
 
 mul-n-2 : tie.Need-mul-n-2 Inv-loop μ-loop
-mul-n-2 c =
-    let at-loop-test = c .before .before .before .before .before .before .before .before in
-    let at-loop = at-loop-test .before in
-    let at-pre = at-loop .before .before in
-    let k = reads-below _ _ _ (at-loop .loop .inv) (omega (arith, at-pre .pre, at-loop-test .loop-test .taken)) in omega arith
+mul-n-2 c = omega (arith, small c)
 
 add-n-2 : tie.Need-add-n-2 Inv-loop μ-loop
-add-n-2 c =
-    let at-loop-test = c .before .before .before .before .before .before .before .before in
-    let at-loop = at-loop-test .before in
-    let at-pre = at-loop .before .before in
-    let k = reads-below _ _ _ (at-loop .loop .inv) (omega (arith, at-pre .pre, at-loop-test .loop-test .taken)) in omega arith
+add-n-2 c = omega (arith, small c)
 
 add-i : tie.Need-add-i Inv-loop μ-loop
 add-i c = omega arith
 
 loop-less : tie.Need-loop-less Inv-loop μ-loop
-loop-less c = omega (arith, c .before .before .before .before .before .before .before .before .loop-test .taken)
+loop-less c = omega (arith, c .before .before .before .before .before .before .loop-test .taken)
 
 loop-again : tie.Need-loop-again Inv-loop μ-loop
 loop-again c =
-    let at-if = c .before .before .before .before .before in
-    let at-wide = at-if .before in
-    let at-loop-test = at-wide .before .before in
-    let at-loop = at-loop-test .before in
-    reads-two _ _ _ _ _ (at-loop .loop .inv) (at-loop-test .loop-test .taken) (at-wide .wide .ensures) (c .before .before .wide2 .ensures) (at-if .if1 .left) (c .before .before .before .before .if2 .left) (c .before .if3 .left) (c .if4 .left)
+    let at-if1 = c .before .before .before in
+    let at-loop-test = at-if1 .before .before .before in
+    let is-a = at-if1 .before .digit .ensures .digit (omega arith) in
+    let is-b = c .before .digit2 .ensures .digit (omega arith) in
+    reads-two _ _ _ _ _ (at-loop-test .before .loop .inv) (at-loop-test .loop-test .taken) is-a (omega arith) is-b (omega arith)
 
-shared-slice-read-wide-3 : tie.Need-shared-slice-read-wide-3 Inv-loop μ-loop
-shared-slice-read-wide-3 c = omega (arith, c .before .if5 .taken)
+shared-slice-read-digit-3 : tie.Need-shared-slice-read-digit-3 Inv-loop μ-loop
+shared-slice-read-digit-3 c = omega (arith, c .before .if3 .taken)
 
-wide-requires-3 : tie.Need-wide-requires-3 Inv-loop μ-loop
-wide-requires-3 c κs = search needs
+digit-requires-3 : tie.Need-digit-requires-3 Inv-loop μ-loop
+digit-requires-3 c κs = search needs
 
-returns-5 : tie.Need-returns-5 Inv-loop μ-loop
-returns-5 c = reads-low _ _ _ (c .before .before .before .before .before .loop .inv) (c .before .before .before .if5 .taken) (omega arith)
-
-returns-6 : tie.Need-returns-6 Inv-loop μ-loop
-returns-6 c = reads-high _ _ _ (c .before .before .before .before .before .before .loop .inv) (c .before .before .before .before .if5 .taken) (omega arith)
+returns-3 : tie.Need-returns-3 Inv-loop μ-loop
+returns-3 c = reads-other _ _ _ (c .before .before .before .before .before .loop .inv) (c .before .before .before .if3 .taken) (c .before .digit3 .ensures .other (omega arith))
 
 mul-limited : tie.Need-mul-limited Inv-loop μ-loop
-mul-limited c = let k = reads-below _ _ _ (c .before .before .before .before .before .before .loop .inv) (omega (arith, c .before .before .before .before .before .before .before .before .pre, c .before .before .before .before .if5 .taken)) in omega arith
+mul-limited c = omega (arith, small-last c)
 
 add-limited : tie.Need-add-limited Inv-loop μ-loop
-add-limited c = let k = reads-below _ _ _ (c .before .before .before .before .before .before .loop .inv) (omega (arith, c .before .before .before .before .before .before .before .before .pre, c .before .before .before .before .if5 .taken)) in omega arith
+add-limited c = omega (arith, small-last c)
 
 limited-requires : tie.Need-limited-requires Inv-loop μ-loop
 limited-requires c κs = search needs
 
-returns-7 : tie.Need-returns-7 Inv-loop μ-loop
-returns-7 c =
-    let at-if = c .before .before .before .before .before in
-    let at-loop-test = at-if .before in
-    let at-loop = at-loop-test .before in
-    c .limited .ensures ∙ rw (c .before .before .before .wide3 .ensures) (reads-all _ _ _ (reads-more _ _ _ (at-loop .loop .inv) (at-if .if5 .taken) (omega arith) (omega arith)) (omega (arith, at-loop-test .loop-test .left)))
+returns-4 : tie.Need-returns-4 Inv-loop μ-loop
+returns-4 c =
+    let at-if4 = c .before in
+    let at-if3 = at-if4 .before .before .before in
+    let at-loop-test = at-if3 .before in
+    let more = reads-more _ _ _ (at-loop-test .before .loop .inv) (at-if3 .if3 .taken) _ (at-if4 .before .digit3 .ensures .digit (omega arith)) (omega arith) in
+    c .limited .ensures ∙ reads-all _ _ _ more (omega (arith, at-loop-test .loop-test .left))
 
 limited-requires-2 : tie.Need-limited-requires-2 Inv-loop μ-loop
 limited-requires-2 c κs = search needs
 
-returns-8 : tie.Need-returns-8 Inv-loop μ-loop
-returns-8 c = c .limited2 .ensures ∙ reads-all _ _ _ (c .before .before .before .loop .inv) (c .before .if5 .left)
+returns-5 : tie.Need-returns-5 Inv-loop μ-loop
+returns-5 c = c .limited2 .ensures ∙ reads-all _ _ _ (c .before .before .before .loop .inv) (c .before .if3 .left)
 
 pub value-spec : {M : Type 1} → statement M
 value-spec =
@@ -137,15 +124,13 @@ value-spec =
     μ-loop
     loop-holds
     add-loop
-    shared-slice-read-wide
-    wide-requires
+    shared-slice-read-digit
+    digit-requires
     returns
+    add-digit
+    shared-slice-read-digit-2
+    digit-requires-2
     returns-2
-    add-wide
-    shared-slice-read-wide-2
-    wide-requires-2
-    returns-3
-    returns-4
     mul-n
     add-n
     mul-n-2
@@ -153,13 +138,12 @@ value-spec =
     add-i
     loop-less
     loop-again
-    shared-slice-read-wide-3
-    wide-requires-3
-    returns-5
-    returns-6
+    shared-slice-read-digit-3
+    digit-requires-3
+    returns-3
     mul-limited
     add-limited
     limited-requires
-    returns-7
+    returns-4
     limited-requires-2
-    returns-8)
+    returns-5)

@@ -1,12 +1,19 @@
 -- `lines::narrow::digits` meets its contract. Assumes nothing.
-use Prim.Native.Nat.{_+_, _*_}
+use Prim.Native.Nat.{_+_, _*_, _≤_}
 use mathlib.Core.Path.{_∙_}
 use native.Mathlib.Omega.{arith}
 use Rattle.lines.proofs.ReadLaws.{part-from}
-use Rattle.lines.proofs.NarrowLaws.{product-below-two, after-blanks}
+use Rattle.lines.proofs.NarrowLaws.{two-below, three-below, after-blanks}
 use borrow.Author.Needs.{needs}
 use Rattle.lines.proofs.narrow.digits.Statement.{statement}
 use Rattle.lines.proofs.narrow.digits.Tie as tie
+
+-- the second and third column, and all three
+few : (c : tie.After-is-blank3) → c .before .before .is-blank2 .result * (1 + c .is-blank3 .result) ≤ 2
+few c = two-below _ _ (c .before .before .is-blank2 .ensures .0) (c .is-blank3 .ensures .0)
+
+few-more : (c : tie.After-is-blank3) → c .before .before .before .before .is-blank .result * (1 + c .before .before .is-blank2 .result * (1 + c .is-blank3 .result)) ≤ 3
+few-more c = three-below _ _ _ (c .before .before .before .before .is-blank .ensures .0) (c .before .before .is-blank2 .ensures .0) (c .is-blank3 .ensures .0)
 
 shared-slice-read-is-blank : tie.Need-shared-slice-read-is-blank
 shared-slice-read-is-blank c = search needs
@@ -20,26 +27,40 @@ shared-slice-read-is-blank-2 c = search needs
 is-blank-requires-2 : tie.Need-is-blank-requires-2
 is-blank-requires-2 c κs = search needs
 
-mul-second : tie.Need-mul-second
-mul-second c = let k = product-below-two _ _ (c .before .before .is-blank .ensures .0) (c .is-blank2 .ensures .0) in omega arith
+shared-slice-read-is-blank-3 : tie.Need-shared-slice-read-is-blank-3
+shared-slice-read-is-blank-3 c = search needs
 
-add-result : tie.Need-add-result
-add-result c = let k = product-below-two _ _ (c .before .before .is-blank .ensures .0) (c .is-blank2 .ensures .0) in omega (arith, c .before .before .is-blank .ensures .0)
+is-blank-requires-3 : tie.Need-is-blank-requires-3
+is-blank-requires-3 c κs = search needs
+
+add-blanks : tie.Need-add-blanks
+add-blanks c = search needs
+
+mul-blanks : tie.Need-mul-blanks
+mul-blanks c = omega (arith, few c)
+
+add-blanks-2 : tie.Need-add-blanks-2
+add-blanks-2 c = omega (arith, few c)
+
+mul-blanks-2 : tie.Need-mul-blanks-2
+mul-blanks-2 c = omega (arith, few-more c)
 
 sub-result : tie.Need-sub-result
-sub-result c = let k = product-below-two _ _ (c .before .before .is-blank .ensures .0) (c .is-blank2 .ensures .0) in omega (arith, c .before .before .is-blank .ensures .0, c .before .before .before .before .before .pre .0)
+sub-result c = omega (arith, few-more c)
 
 part-result-start : tie.Need-part-result-start
-part-result-start c = let k = product-below-two _ _ (c .before .before .is-blank .ensures .0) (c .is-blank2 .ensures .0) in omega (arith, c .before .before .is-blank .ensures .0, c .before .before .before .before .before .pre .0)
+part-result-start c = omega (arith, few-more c)
 
 part-result-end : tie.Need-part-result-end
 part-result-end c = search needs
 
 returns : tie.Need-returns
 returns c =
-    part-from (c .before .before .before .before .before .before .args .field .now) (c .before .before .before .is-blank .result + c .before .before .before .is-blank .result * c .before .is-blank2 .result)
-    ∙ rw (c .before .before .before .is-blank .ensures .1, c .before .is-blank2 .ensures .1)
-    (after-blanks _ (c .before .before .before .before .before .before .pre .0) (c .before .before .before .before .before .before .pre .1))
+    let at-first = c .before .before .before .before .before in
+    let at-second = c .before .before .before in
+    let at-start = at-first .before .before .before in
+    part-from (at-start .args .field .now) (at-first .is-blank .result * (1 + at-second .is-blank2 .result * (1 + c .before .is-blank3 .result)))
+    ∙ rw (at-first .is-blank .ensures .1, at-second .is-blank2 .ensures .1, c .before .is-blank3 .ensures .1) (after-blanks _ (at-start .pre))
 
 pub digits-spec : {M : Type 1} → statement M
 digits-spec =
@@ -49,8 +70,12 @@ digits-spec =
     is-blank-requires
     shared-slice-read-is-blank-2
     is-blank-requires-2
-    mul-second
-    add-result
+    shared-slice-read-is-blank-3
+    is-blank-requires-3
+    add-blanks
+    mul-blanks
+    add-blanks-2
+    mul-blanks-2
     sub-result
     part-result-start
     part-result-end
