@@ -20,6 +20,16 @@ impl Sitting {
         (0..length.min(most)).map(|_| self.command_of_any_size()).collect()
     }
 
+    /// A list of so many commands as lines have them.
+    pub fn long_list(&mut self, count: usize) -> Vec<Command> {
+        let next = |sitting: &mut Sitting| {
+            let command = sitting.command();
+            sitting.sheet.try_run(&command);
+            command
+        };
+        (0..count).map(|_| next(self)).collect()
+    }
+
     fn command_of_any_size(&mut self) -> Command {
         let mut command = self.command();
         if self.draw.once_in(WIDE) {

@@ -12,8 +12,7 @@ use lib.Ieee.Order.{drop, kept}
 use lib.Ieee.Scale.{grid, finite}
 use Rattle.laws.specs.Within.{distance, Within}
 use Rattle.laws.specs.Exact.{sizeIn}
-use Rattle.laws.specs.RoundsTo.{limit, off, RoundsTo}
-use Rattle.laws.specs.Determines.{Determines}
+use Rattle.laws.specs.RoundsTo.{limit, off, RoundsTo, RoundingDetermined}
 use Rattle.laws.proofs.CompareLaws.{equal-or-not}
 use Rattle.laws.proofs.ClosestLaws.{closest-near, near-of-best, even-unique}
 use Rattle.laws.proofs.KeptLaws.{near-le, near-few}
@@ -105,5 +104,5 @@ module _ (f : Format) (s : Bool) (a c : ℕ) (C : 0 < c) (r : Float) (m : Rounds
       go true h g = finite-same (m .below (h tt)) (round-nearest f s a c C .below (h tt))
       go false h g = m .beyond (g tt) ∙ sym (round-nearest f s a c C .beyond (g tt))
 
-pub rounds-to-determines : (f : Format) (s : Bool) (a c : ℕ) → 0 < c → Determines (RoundsTo f s a c)
-rounds-to-determines f s a c C r t m l = rounds-to-round f s a c C r m ∙ sym (rounds-to-round f s a c C t l)
+pub rounding-determined : RoundingDetermined
+rounding-determined f s a c C r t m l = rounds-to-round f s a c C r m ∙ sym (rounds-to-round f s a c C t l)

@@ -7,6 +7,7 @@ use lib.Ieee.{Float, inf, Format, prec, emax, low, fits, isNan, toBits}
 use lib.Ieee.Scale.{finite}
 use Rattle.laws.specs.Exact.{negative, sizeIn}
 use Rattle.laws.specs.Within.{distance}
+use Rattle.laws.specs.Determines.{Determines}
 
 -- How far apart two whole numbers with signs are.
 abbrev pub gap : Bool → ℕ → Bool → ℕ → ℕ
@@ -33,3 +34,7 @@ pub record RoundsTo (f : Format) (s : Bool) (a c : ℕ) (r : Float) : Type 0 whe
   pub nearest : T (finite r) → (y : Float) → T (fits f y) → T (finite y) → off f r s a c ≤ off f y s a c
   -- and where another one is as near, the last digit of r is even
   pub even : T (finite r) → (y : Float) → T (fits f y) → T (finite y) → off f r s a c ≡ off f y s a c → (r ≡ y → ⊥) → toBits f r % 2 ≡ 0
+
+-- This leaves no choice: two results with the same meaning are equal.
+abbrev pub RoundingDetermined : Type 0
+RoundingDetermined = (f : Format) (s : Bool) (a c : ℕ) → 0 < c → Determines (RoundsTo f s a c)

@@ -2,6 +2,7 @@
 ghost use Prim.Native.Nat.{_+_, _≤_};
 ghost use lib.ListN.{length};
 ghost use Rattle.probe.specs.Bounds.{longest};
+ghost use Rattle.probe.specs.Shows.{Gives, one};
 
 // The refusals.
 pub(crate) const NONE: u32 = 0;
@@ -25,11 +26,23 @@ pub(crate) struct Answer {
 // The answer that refuses a call, with a zero for each of `count` results.
 pub(crate) fn refused(refusal: u32, count: usize) -> Answer
     requires { ⌜ count ≤ 6 ⌝ }
-    ensures { λ r. ⌜ r .count ≤ 6 ⌝ }
+    ensures { λ r. ⌜ Gives refusal count (one 0) r ⌝ }
 {
     let results = [0u32; 6];
     Answer {
         refusal: refusal,
+        count: count,
+        results: results,
+    }
+}
+
+// The answer to a call that is not refused.
+pub(crate) fn done(count: usize, results: [u32; 6]) -> Answer
+    requires { ⌜ count ≤ 6 ⌝ }
+    ensures { λ r. ⌜ Gives 0 count results r ⌝ }
+{
+    Answer {
+        refusal: NONE,
         count: count,
         results: results,
     }

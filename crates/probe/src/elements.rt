@@ -1,4 +1,12 @@
 // The functions of Vec3 on its elements, 40 to 63, and its constants and a component, 103 and 114 to 119.
+ghost use Prim.Native.Nat.{_≤_};
+ghost use lib.Ieee.{binary32, toBits};
+ghost use Rattle.vector.specs.Indexed as Indexed;
+ghost use Rattle.probe.specs.Shows.{Shows};
+use crate::answer::Answer;
+use crate::answer::INDEX;
+use crate::answer::done;
+use crate::answer::refused;
 use crate::forms::flag;
 use crate::forms::float;
 use crate::forms::four;
@@ -7,8 +15,8 @@ use crate::forms::mask_at;
 use crate::forms::vector;
 use crate::forms::vector_at;
 use crate::forms::whole;
+use crate::signs;
 use scalar::bits::from_bits;
-use scalar::sign::copysign_bits;
 use vector::vec3::Vec3;
 use vector::vec3::index::Component;
 use vector::vec4::Vec4;
@@ -34,8 +42,15 @@ pub(crate) fn results_of(number: u32, values: &[u32; 10]) -> [u32; 6] {
         55 => mask(a.cmplt(b)),
         56 => vector(a.abs()),
         57 => vector(a.signum()),
-        58 => vector(copysign(values)),
-        59 => whole(Vec3::is_negative_bitmask_bits(values[1], values[2], values[3])),
+        58 => vector(signs::copysign_all(
+            values[1],
+            values[2],
+            values[3],
+            values[4],
+            values[5],
+            values[6],
+        )),
+        59 => whole(signs::negative_bitmask(values[1], values[2], values[3])),
         60 => flag(a.is_finite()),
         61 => mask(a.is_finite_mask()),
         62 => flag(a.is_nan()),
@@ -44,12 +59,11 @@ pub(crate) fn results_of(number: u32, values: &[u32; 10]) -> [u32; 6] {
     }
 }
 
-// The results of the functions from 103 on that are no operators.
+// The results of the functions from 114 on.
 pub(crate) fn others_of(number: u32, values: &[u32; 10]) -> [u32; 6] {
     let a = vector_at(values, 1);
     let w = from_bits(values[4]);
     match number {
-        103 => component(a.component(values[4])),
         114 => vector(Vec3::from_homogeneous(Vec4 {
             x: a.x,
             y: a.y,
@@ -65,17 +79,20 @@ pub(crate) fn others_of(number: u32, values: &[u32; 10]) -> [u32; 6] {
     }
 }
 
-// The signs are those of the bits in the call, a NaN's too.
-fn copysign(values: &[u32; 10]) -> Vec3 {
-    let x = copysign_bits(values[1], values[4]);
-    let y = copysign_bits(values[2], values[5]);
-    let z = copysign_bits(values[3], values[6]);
-    Vec3::new(from_bits(x), from_bits(y), from_bits(z))
+// The answer of `component`, which refuses an index above 2.
+pub(crate) fn component(values: &[u32; 10]) -> Answer
+    ensures { λ r. ⌜ r .count ≤ 6 ⌝ }
+{
+    let a = vector_at(values, 1);
+    at(a.component(values[4]))
 }
 
-fn component(c: Component) -> [u32; 6] {
+// A number, or the refusal.
+fn at(c: Component) -> Answer
+    ensures { λ r. ⌜ Shows (toBits binary32) (Indexed.answerOf c) r ⌝ }
+{
     let Component::At(x) = c else {
-        return [0; 6];
+        return refused(INDEX, 1);
     };
-    float(x)
+    done(1, float(x))
 }

@@ -8,6 +8,7 @@ mod lengths;
 mod masks;
 mod motions;
 mod scalars;
+mod signs;
 
 ghost use Prim.Native.Nat.{_+_, _≤_, _<_};
 ghost use lib.ListN.{length};

@@ -1,6 +1,7 @@
 // The scalar functions, 1 to 15.
 use crate::forms::flag;
 use crate::forms::float;
+use crate::signs;
 use scalar::acos::acos_approx;
 use scalar::bits::from_bits;
 use scalar::euclid::div_euclid;
@@ -12,10 +13,8 @@ use scalar::integral::round;
 use scalar::integral::trunc;
 use scalar::root::sqrt;
 use scalar::sign::abs;
-use scalar::sign::copysign_bits;
 use scalar::sign::is_finite;
 use scalar::sign::is_nan;
-use scalar::sign::is_sign_negative_bits;
 use scalar::sign::signum;
 
 // The results of a function at the arguments behind its number in `values`.
@@ -31,7 +30,7 @@ pub(crate) fn results_of(number: u32, values: &[u32; 10]) -> [u32; 6] {
         4 => float(floor(x)),
         5 => float(round(x)),
         6 => float(abs(x)),
-        7 => float(from_bits(copysign_bits(a, b))),
+        7 => float(signs::copysign(a, b)),
         8 => float(signum(x)),
         9 => float(rem(x, y)),
         10 => float(div_euclid(x, y)),
@@ -39,7 +38,7 @@ pub(crate) fn results_of(number: u32, values: &[u32; 10]) -> [u32; 6] {
         12 => float(acos_approx(x)),
         13 => flag(is_finite(x)),
         14 => flag(is_nan(x)),
-        15 => flag(is_sign_negative_bits(a)),
+        15 => flag(signs::negative(a)),
         _ => [0; 6],
     }
 }

@@ -16,7 +16,7 @@ use Rattle.laws.proofs.CompareLaws.{Cmp, cmp, equal-or-not}
 use Rattle.laws.proofs.ClosestLaws.{closest-near, near-of-best, even-unique}
 use Rattle.laws.proofs.SignedLaws.{zero-or-signed}
 use Rattle.laws.proofs.SizeLaws.{size-unique}
-use Rattle.laws.proofs.RoundDetermined.{rounds-to-determines}
+use Rattle.laws.proofs.RoundDetermined.{rounding-determined}
 use Rattle.scalar.specs.RootMeaning.{NearestRoot, radicand}
 use Rattle.scalar.specs.FusedMeaning.{RoundedOnce, exactSum}
 use Rattle.scalar.specs.IntegralMeaning.{Whole, Truncated, Floored, RoundedEven}
@@ -46,7 +46,7 @@ fused-determines : (a b c : Float) → Determines (RoundedOnce a b c)
 fused-determines a b c r t m l =
     elim (zero-or-signed (exactSum a b c)) [
       | inl e ↦ m .none e ∙ sym (l .none e)
-      | inr (s, n, h, e) ↦ rounds-to-determines binary32 s n (2 ^ 298) (pow-pos 298) r t (m .some s n h e) (l .some s n h e)
+      | inr (s, n, h, e) ↦ rounding-determined binary32 s n (2 ^ 298) (pow-pos 298) r t (m .some s n h e) (l .some s n h e)
     ]
 
 -- ---- whole results: by the whole number

@@ -5,7 +5,7 @@ use lib.Dec.{T, ltb}
 use lib.Ieee.{Float, nan, inf, fin, binary32, up, down, unlike, fits, sum, mul, div, rem, lt}
 use lib.Ieee.Fits.{round-fits, cond-fits, nan-fits, inf-fits, add-fits, sub-fits, rem-fits}
 use Rattle.scalar.specs.Sign.{abs, one}
-use Rattle.scalar.specs.Fused.{mulAdd}
+use Rattle.scalar.specs.Fused.{fusedMultiplyAdd}
 use Rattle.scalar.specs.Integral.{integral, trunc}
 use Rattle.scalar.specs.Euclid.{zer, divEuclid, remEuclid}
 
@@ -18,8 +18,8 @@ sum-fits s a t b c =
     cond-fits binary32 (Bool·beq s t) _ _ (round-fits binary32 s (a + b) c)
     (cond-fits binary32 (ltb a b) _ _ (round-fits binary32 t (b - a) c) (round-fits binary32 (s && ltb b a) (a - b) c))
 
-pub fused-fits : (x y z : Float) → Fits32 (mulAdd x y z)
-unfolding mulAdd
+pub fused-fits : (x y z : Float) → Fits32 (fusedMultiplyAdd x y z)
+unfolding fusedMultiplyAdd
 fused-fits nan y z = nan-fits binary32
 fused-fits (inf s) y z = add-fits binary32 (mul binary32 (inf s) y) z
 fused-fits (fin s m e) nan z = nan-fits binary32

@@ -18,7 +18,7 @@ use Rattle.laws.proofs.Ring.{var, lit, _⊗_}
 use Rattle.laws.proofs.RingNat.{ring}
 use Rattle.laws.proofs.LeadingLaws.{leading-lift}
 use Rattle.laws.proofs.SumSame.{sum-same}
-use Rattle.scalar.specs.Fused.{mulAdd}
+use Rattle.scalar.specs.Fused.{fusedMultiplyAdd}
 use Rattle.scalar.specs.Parts.{Split, Decoded}
 use Rattle.scalar.specs.FusedParts.{Plain, Normal, Terms}
 use Rattle.scalar.specs.declared.bits.Parts.the-variants.{Fin}
@@ -124,7 +124,7 @@ module _ (x y z : Float) (s t u : Bool) (m k n d q g : ℕ) (M : Normal x s m k)
       ap₂ _*_ q-word (pow-add 2 g 239)
       ∙ ring (q ∷ 2 ^ g ∷ []) (var 0 ⊗ lit 274877906944 ⊗ (var 1 ⊗ lit (2 ^ 239))) (var 0 ⊗ var 1 ⊗ lit (2 ^ 277)) refl
 
-  pub number-sum : sum binary32 (unlike s t) (m * n * 16384 % 18446744073709551616 * 2 ^ (k + d + 68)) u (q * 274877906944 % 18446744073709551616 * 2 ^ (g + 239)) (2 ^ 426) ≡ mulAdd x y z
+  pub number-sum : sum binary32 (unlike s t) (m * n * 16384 % 18446744073709551616 * 2 ^ (k + d + 68)) u (q * 274877906944 % 18446744073709551616 * 2 ^ (g + 239)) (2 ^ 426) ≡ fusedMultiplyAdd x y z
   number-sum =
       ap₂ (λ (a b : ℕ). sum binary32 (unlike s t) a u b (2 ^ 426)) product-is term-is
       ∙ sym (fused-at x y z s t u (M .size) (N .size) (q * 2 ^ g) (M .value) (N .value) (value-of-parts z u q g (K .0)))
@@ -137,11 +137,11 @@ zero-round s n c C h = ap (λ (x : ℕ). round binary32 s x c) h ∙ round-same 
     none s = unfold round in refl
 
 zero-product : (s : Bool) (m : ℕ) (e : ℤ) (t : Bool) (n : ℕ) (d : ℤ) (z : Float) → m * up e * (n * up d) ≡ 0
-    → add binary32 (mul binary32 (fin s m e) (fin t n d)) z ≡ mulAdd (fin s m e) (fin t n d) z
-unfolding mulAdd mul add
+    → add binary32 (mul binary32 (fin s m e) (fin t n d)) z ≡ fusedMultiplyAdd (fin s m e) (fin t n d) z
+unfolding fusedMultiplyAdd mul add
 zero-product s m e t n d z h = ap (λ (w : Float). add binary32 w z) (zero-round (unlike s t) (m * up e * (n * up d)) (down e * down d) (mul-pos (down-pos e) (down-pos d)) h) ∙ go z
   where
-    go : (z : Float) → add binary32 (fin (unlike s t) 0 (pos 0)) z ≡ mulAdd (fin s m e) (fin t n d) z
+    go : (z : Float) → add binary32 (fin (unlike s t) 0 (pos 0)) z ≡ fusedMultiplyAdd (fin s m e) (fin t n d) z
     go nan = refl
     go (inf u) = refl
     go (fin u w g) =
@@ -151,16 +151,16 @@ zero-product s m e t n d z h = ap (λ (w : Float). add binary32 w z) (zero-round
         (ring (w * up g ∷ down g ∷ down e * down d ∷ []) (var 0 ⊗ lit 1 ⊗ (var 2 ⊗ var 1)) (var 0 ⊗ var 2 ⊗ (lit 1 ⊗ var 1)) refl)
         (unlike s t) u
 
-pub plain-first : (x y z : Float) → Plain x → add binary32 (mul binary32 x y) z ≡ mulAdd x y z
-unfolding mulAdd mul add
+pub plain-first : (x y z : Float) → Plain x → add binary32 (mul binary32 x y) z ≡ fusedMultiplyAdd x y z
+unfolding fusedMultiplyAdd mul add
 plain-first nan y z p = refl
 plain-first (inf s) y z p = refl
 plain-first (fin s m e) nan z p = refl
 plain-first (fin s m e) (inf t) z p = refl
 plain-first (fin s m e) (fin t n d) z p = zero-product s m e t n d z (ap (λ (x : ℕ). x * up e * (n * up d)) p ∙ ap (λ (x : ℕ). x * (n * up d)) (zero-mul (up e)) ∙ zero-mul (n * up d))
 
-pub plain-second : (x y z : Float) (s : Bool) (p : ℕ) → HasValue x s p (2 ^ 149) → Plain y → add binary32 (mul binary32 x y) z ≡ mulAdd x y z
-unfolding mulAdd mul add
+pub plain-second : (x y z : Float) (s : Bool) (p : ℕ) → HasValue x s p (2 ^ 149) → Plain y → add binary32 (mul binary32 x y) z ≡ fusedMultiplyAdd x y z
+unfolding fusedMultiplyAdd mul add
 plain-second nan y z s p h k = absurd h
 plain-second (inf t) y z s p h k = absurd h
 plain-second (fin t m e) nan z s p h k = refl
@@ -168,11 +168,11 @@ plain-second (fin t m e) (inf u) z s p h k = refl
 plain-second (fin t m e) (fin u n d) z s p h k = zero-product t m e u n d z (ap (λ (x : ℕ). m * up e * (x * up d)) k ∙ ap (λ (x : ℕ). m * up e * x) (zero-mul (up d)) ∙ mul-zero (m * up e))
 
 -- ---- a term that is no number stays
-pub other-term : (x y z : Float) (s t : Bool) (p q : ℕ) → HasValue x s p (2 ^ 149) → HasValue y t q (2 ^ 149) → Other z → z ≡ mulAdd x y z
-unfolding mulAdd
+pub other-term : (x y z : Float) (s t : Bool) (p q : ℕ) → HasValue x s p (2 ^ 149) → HasValue y t q (2 ^ 149) → Other z → z ≡ fusedMultiplyAdd x y z
+unfolding fusedMultiplyAdd
 other-term nan y z s t p q h k o = absurd h
 other-term (inf a) y z s t p q h k o = absurd h
 other-term (fin a m e) nan z s t p q h k o = absurd k
 other-term (fin a m e) (inf b) z s t p q h k o = absurd k
-other-term (fin a m e) (fin b n d) z s t p q h k (inl o) = o ∙ sym (ap (λ (w : Float). mulAdd (fin a m e) (fin b n d) w) o)
-other-term (fin a m e) (fin b n d) z s t p q h k (inr o) = o .1 ∙ sym (ap (λ (w : Float). mulAdd (fin a m e) (fin b n d) w) (o .1))
+other-term (fin a m e) (fin b n d) z s t p q h k (inl o) = o ∙ sym (ap (λ (w : Float). fusedMultiplyAdd (fin a m e) (fin b n d) w) o)
+other-term (fin a m e) (fin b n d) z s t p q h k (inr o) = o .1 ∙ sym (ap (λ (w : Float). fusedMultiplyAdd (fin a m e) (fin b n d) w) (o .1))

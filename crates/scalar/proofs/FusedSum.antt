@@ -11,11 +11,11 @@ use lib.Ieee.Fits.{down-pos}
 use Rattle.laws.proofs.Ring.{var, lit, _⊗_}
 use Rattle.laws.proofs.RingNat.{ring}
 use Rattle.laws.proofs.SumSame.{sum-same}
-use Rattle.scalar.specs.Fused.{mulAdd}
+use Rattle.scalar.specs.Fused.{fusedMultiplyAdd}
 
 pub fused-at : (x y z : Float) (s t u : Bool) (p q r : ℕ) → HasValue x s p (2 ^ 149) → HasValue y t q (2 ^ 149) → HasValue z u r (2 ^ 149)
-    → mulAdd x y z ≡ sum binary32 (unlike s t) (p * q * 2 ^ 128) u (r * 2 ^ 277) (2 ^ 426)
-unfolding mulAdd
+    → fusedMultiplyAdd x y z ≡ sum binary32 (unlike s t) (p * q * 2 ^ 128) u (r * 2 ^ 277) (2 ^ 426)
+unfolding fusedMultiplyAdd
 fused-at nan y z s t u p q r h k l = absurd h
 fused-at (inf a) y z s t u p q r h k l = absurd h
 fused-at (fin a m e) nan z s t u p q r h k l = absurd k

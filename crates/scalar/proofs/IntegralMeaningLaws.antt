@@ -1,11 +1,11 @@
 -- The whole results are what specs/IntegralMeaning says. Assumes nothing.
-use mathlib.Core.Path.{_≡_, refl, sym, ap, _∙_, subst}
+use mathlib.Core.Path.{_≡_, sym, ap, _∙_, subst}
 use mathlib.Core.Bool.{Bool, true, false, not, cond}
 use Prim.Native.Nat.{ℕ, _+_, _-_, _*_, _/_, _%_, _^_, _≤_, _<_, compare}
-use native.Mathlib.Nat.{le-trans, le-of-eq, lt-of-lt-of-le, lt-of-le-of-lt, le-refl, le-add-right, mul-assoc, mul-one, mul-le-mul-left, mul-lt-mul-of-pos-right, div-mul-le-self, lt-div-mul-add, div-lt-iff-lt-mul, div-add-mod', mod-lt, add-mul}
+use native.Mathlib.Nat.{le-trans, le-of-eq, lt-of-lt-of-le, lt-of-le-of-lt, le-refl, le-add-right, mul-assoc, mul-one, mul-lt-mul-of-pos-right, div-mul-le-self, lt-div-mul-add, div-lt-iff-lt-mul, div-add-mod', mod-lt, add-mul}
 use native.Mathlib.Numerals.{add-one}
 use native.Mathlib.Omega.{arith}
-use lib.Dec.{T, leb, eqb, eqb→eq, leb→le, nleb→lt, lit≤}
+use lib.Dec.{T, leb, eqb, eqb→eq, leb→le, nleb→lt}
 use lib.Pow.{pow-pos, pow-add, pow-mono}
 use lib.Ieee.{Float, binary32, odd, round, fits}
 use lib.Ieee.Back.{round-whole}

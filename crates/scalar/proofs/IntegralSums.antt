@@ -1,5 +1,5 @@
 -- A float below 2 ^ 23 in size made whole by a sum with 2 ^ 23 and a difference; from there on it is whole. Assumes nothing.
-use mathlib.Core.Path.{_≡_, refl, sym, ap, ap₂, _∙_, subst}
+use mathlib.Core.Path.{_≡_, refl, sym, ap, _∙_, subst}
 use mathlib.Core.Logic.{inl}
 use mathlib.Core.Bool.{Bool, true, false, not, cond, true≢false}
 use Prim.Native.Nat.{ℕ, suc, _+_, _-_, _*_, _/_, _%_, _^_, _≤_, _<_, compare}
@@ -19,13 +19,13 @@ use Rattle.laws.proofs.OperationLaws.{neg-value}
 use Rattle.laws.proofs.SizeLaws.{value-of-size, size-of-value}
 use Rattle.laws.proofs.ValueLaws.{Value, value-finite}
 use Rattle.laws.proofs.ValueOrderLaws.{lt-is}
-use Rattle.scalar.specs.Integral.{integral, cut, lower, even}
+use Rattle.scalar.specs.Integral.{integral, lower, even}
 use Rattle.scalar.specs.Sign.{abs, copysign, one}
 use Rattle.scalar.proofs.BitsLaws.{PartsOf, parts-of, round-neg}
 use Rattle.scalar.proofs.PartsLaws.{value-of-parts}
 use Rattle.scalar.proofs.SignLaws.{abs-pos, abs-value, copy}
 use Rattle.scalar.proofs.IntegralLaws.{Rule, integral-at, other-stays, whole-stays}
-use Rattle.scalar.proofs.IntegralRules.{cut-rule, lower-rule, even-rule}
+use Rattle.scalar.proofs.IntegralRules.{lower-rule, even-rule}
 use Rattle.laws.proofs.WholeLaws.{whole-value, whole-more, whole-less, near-whole}
 
 -- ---- the nearest whole number against the fraction
@@ -89,9 +89,6 @@ one-is : Value binary32 one false (1 * 2 ^ 149)
 unfolding ofBits
 one-is = (refl, refl)
 
-value-number : (x : Float) (s : Bool) (i : ℕ) → Value binary32 x s i → T (not (isNan x))
-value-number x s i v = finite-number x (value-finite x s i (2 ^ 149) v)
-
 finite-below : (x : Float) → lt (abs x) whole ≡ true → T (finite x)
 unfolding abs lt ofBits
 finite-below nan h = absurd (true≢false (sym h))
@@ -129,9 +126,6 @@ module _ (x a : Float) (fx : T (fits binary32 x)) (e : a ≡ abs x) (small : lt 
   part-below : n / 2 ^ 149 < 2 ^ 23
   part-below = div-lt-iff-lt-mul (pow-pos 149) .1 n-below
 
-  part-fits : n / 2 ^ 149 ≤ 2 ^ 24
-  part-fits = le-trans (le-of-lt part-below) (lit≤ tt)
-
   w-most : w ≤ 2 ^ 23
   unfolding n w
   w-most = le-trans (nearest-le (n / 2 ^ 149) (compare (n % 2 ^ 149 * 2) (2 ^ 149))) part-below
@@ -153,17 +147,15 @@ module _ (x a : Float) (fx : T (fits binary32 x)) (e : a ≡ abs x) (small : lt 
   w-value s = whole-value binary32 s w w-fits
 
   pub nearest-number : T (not (isNan (sub binary32 (add binary32 a whole) whole)))
-  nearest-number = subst (λ (y : Float). T (not (isNan y))) (sym nearest-is) (value-number (round binary32 false w 1) false (w * 2 ^ 149) (w-value false))
+  nearest-number =
+      subst (λ (y : Float). T (not (isNan y))) (sym nearest-is) (finite-number (round binary32 false w 1) (value-finite (round binary32 false w 1) false (w * 2 ^ 149) (2 ^ 149) (w-value false)))
 
   pub round-sum : copysign (sub binary32 (add binary32 a whole) whole) x ≡ integral even x
   unfolding n w
   round-sum = signed-is ∙ sym (found even even-rule)
 
-  -- ---- one off where the nearest is too large
-  past : lt a (sub binary32 (add binary32 a whole) whole) ≡ ltb n (w * 2 ^ 149)
-  past = ap (lt a) nearest-is ∙ lt-is a (round binary32 false w 1) false false n (w * 2 ^ 149) (2 ^ 149) (pow-pos 149) a-is (w-value false)
+  -- ---- downward: one less where the nearest is above x, for either sign
 
-  -- one less
   less-one : n < w * 2 ^ 149 → sub binary32 (round binary32 false w 1) one ≡ round binary32 false (n / 2 ^ 149) 1
   unfolding n w
   less-one h =
@@ -180,22 +172,10 @@ module _ (x a : Float) (fx : T (fits binary32 x)) (e : a ≡ abs x) (small : lt 
   unfolding n w
   not-past h = cut-same n (2 ^ 149) (pow-pos 149) (nltb→le n (w * 2 ^ 149) (subst (λ (t : Bool). T (not t)) (sym h) tt))
 
-  -- toward zero
   less-step : (t : Bool) → ltb n (w * 2 ^ 149) ≡ t → cond t (sub binary32 (round binary32 false w 1) one) (round binary32 false w 1) ≡ round binary32 false (n / 2 ^ 149) 1
   less-step true h = less-one (ltb→lt n (w * 2 ^ 149) (subst T (sym h) tt))
   less-step false h = ap (λ (i : ℕ). round binary32 false i 1) (sym (not-past h))
 
-  module _ (r : Float) (r-is : r ≡ cond (lt a (sub binary32 (add binary32 a whole) whole)) (sub binary32 (sub binary32 (add binary32 a whole) whole) one) (sub binary32 (add binary32 a whole) whole)) where
-    cut-is : r ≡ round binary32 false (n / 2 ^ 149) 1
-    cut-is = r-is ∙ ap (λ (y : Float). cond (lt a (sub binary32 (add binary32 a whole) whole)) (sub binary32 y one) y) nearest-is ∙ less-step (lt a (sub binary32 (add binary32 a whole) whole)) (sym past)
-
-    pub trunc-number : T (not (isNan r))
-    trunc-number = subst (λ (y : Float). T (not (isNan y))) (sym cut-is) (value-number (round binary32 false (n / 2 ^ 149) 1) false (n / 2 ^ 149 * 2 ^ 149) (whole-value binary32 false (n / 2 ^ 149) part-fits))
-
-    pub trunc-sum : copysign r x ≡ integral cut x
-    trunc-sum = ap (λ (y : Float). copysign y x) cut-is ∙ signed-whole x (n / 2 ^ 149) part-fits ∙ sym (found cut cut-rule)
-
-  -- downward, for either sign
   less-negative : sub binary32 (round binary32 true w 1) one ≡ round binary32 true (w + 1) 1
   unfolding sub
   less-negative = whole-more binary32 (round binary32 true w 1) (neg one) true w 1 (w-value true) (neg-value binary32 one false (1 * 2 ^ 149) one-is)
@@ -206,11 +186,12 @@ module _ (x a : Float) (fx : T (fits binary32 x)) (e : a ≡ abs x) (small : lt 
   floor-step true true h = less-negative ∙ ap (λ (i : ℕ). round binary32 true i 1) (lower-next n (2 ^ 149) (pow-pos 149) (ltb→lt (w * 2 ^ 149) n (subst T (sym h) tt)))
   floor-step true false h = ap (λ (i : ℕ). round binary32 true i 1) (lower-same n (2 ^ 149) (pow-pos 149) (nltb→le (w * 2 ^ 149) n (subst (λ (t : Bool). T (not t)) (sym h) tt)))
 
-  pub floor-sum : (v : Float) → v ≡ copysign (sub binary32 (add binary32 a whole) whole) x → cond (lt x v) (sub binary32 v one) v ≡ integral lower x
-  floor-sum v v-is = ap (λ (y : Float). cond (lt x v) (sub binary32 y one) y) v-whole ∙ floor-step (negative x) (lt x v) (sym beyond) ∙ sym (found lower lower-rule)
+  pub floor-near : (v : Float) → v ≡ integral even x → cond (lt x v) (sub binary32 v one) v ≡ integral lower x
+  unfolding n w
+  floor-near v v-is = ap (λ (y : Float). cond (lt x v) (sub binary32 y one) y) v-whole ∙ floor-step (negative x) (lt x v) (sym beyond) ∙ sym (found lower lower-rule)
     where
       v-whole : v ≡ round binary32 (negative x) w 1
-      v-whole = v-is ∙ signed-is
+      v-whole = v-is ∙ found even even-rule
 
       beyond : lt x v ≡ below (negative x) n (negative x) (w * 2 ^ 149)
       beyond = ap (lt x) v-whole ∙ lt-is x (round binary32 (negative x) w 1) (negative x) (negative x) n (w * 2 ^ 149) (2 ^ 149) (pow-pos 149) x-is (w-value (negative x))

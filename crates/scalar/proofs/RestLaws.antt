@@ -15,7 +15,7 @@ use lib.Count.{leadingZeros}
 use lib.Ieee.{Float, nan, inf, fin, binary32, odd, units, round, rem, fits}
 use lib.Ieee.Bits.{ofBits-fits}
 use lib.Ieee.Exact.{HasValue, units-val, round-exact}
-use lib.Ieee.Fits.{round-fits}
+use lib.Ieee.Fits.{odd-fits, round-fits}
 use Rattle.laws.proofs.LeadingLaws.{leading-lift}
 use Rattle.laws.proofs.Ring.{var, _⊕_, _⊗_}
 use Rattle.laws.proofs.RingNat.{ring}
@@ -160,11 +160,14 @@ module _ (a b : Float) (s : Bool) (m k : ℕ) (A : a ≡ odd 24 s m k 149) where
       rem-sizes = rem-at a b s t (m * 2 ^ k) (n * 2 ^ d) value (value-of-parts b t n d B) (mul-pos P (pow-pos d))
 
       -- the exponent of b is above that of a, so that the significand of b has 24 bits, and b is larger
-      pub rem-smaller : T (fits binary32 a) → Split m k → Split n d → k < d → a ≡ rem binary32 a b
-      rem-smaller F S N h =
-          value-unique binary32 a (round binary32 s (m * 2 ^ k) (2 ^ 149)) s (m * 2 ^ k) F (round-fits binary32 s (m * 2 ^ k) (2 ^ 149)) value (round-value s m k (S .digits) (S .range))
+      pub rem-smaller : Split m k → Split n d → k < d → a ≡ rem binary32 a b
+      rem-smaller S N h =
+          value-unique binary32 a (round binary32 s (m * 2 ^ k) (2 ^ 149)) s (m * 2 ^ k) fit (round-fits binary32 s (m * 2 ^ k) (2 ^ 149)) value (round-value s m k (S .digits) (S .range))
           ∙ sym (rem-sizes ∙ ap (λ (x : ℕ). round binary32 s x (2 ^ 149)) (mod-eq-of-lt less))
         where
+          fit : T (fits binary32 a)
+          fit = subst (λ (x : Float). T (fits binary32 x)) (sym A) (odd-fits binary32 24 s m k (S .digits) (le-of-lt (S .digits)) (parts-under m k (S .digits) (S .range)))
+
           full : 2 ^ 23 ≤ n
           full = let l = lt-of-not-le (λ (g : n ≤ 8388607). let z = N .least (omega arith) in omega arith) in omega arith
 

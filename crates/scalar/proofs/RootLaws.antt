@@ -131,12 +131,12 @@ module _ (w m g p : ℕ) (square : w ≡ m * (2 ^ suc g * 2 ^ suc g)) (near : Ne
       ring (A ∷ G ∷ []) (var 0 ⊗ lit (2 ^ 149) ⊗ (lit 4 ⊗ var 1)) (var 0 ⊗ (lit (2 ^ 150) ⊗ (lit 2 ⊗ var 1))) refl
       ∙ ap (λ (x : ℕ). A * (2 ^ 150 * x)) (sym double)
 
-  rounded : round binary32 false A (2 ^ 150) ≡ units binary32 false (p + 1) (suc g)
-  rounded =
-      round-is binary32 false A (2 ^ 150)
-      ∙ ap (core binary32 false (A * 2 ^ 149) (2 ^ 150)) drop-is
-      ∙ ap (λ (z : ℕ). units binary32 false z (suc g)) (closest-same (A * 2 ^ 149) (2 ^ 150 * 2 ^ suc g) A (4 * G) (mul-pos (pow-pos 150) (pow-pos (suc g))) (mul-pos (lit< tt) G-pos) same ∙ nearest-is)
+  rounded : (s : Bool) → round binary32 s A (2 ^ 150) ≡ units binary32 s (p + 1) (suc g)
+  rounded s =
+      round-is binary32 s A (2 ^ 150)
+      ∙ ap (core binary32 s (A * 2 ^ 149) (2 ^ 150)) drop-is
+      ∙ ap (λ (z : ℕ). units binary32 s z (suc g)) (closest-same (A * 2 ^ 149) (2 ^ 150 * 2 ^ suc g) A (4 * G) (mul-pos (pow-pos 150) (pow-pos (suc g))) (mul-pos (lit< tt) G-pos) same ∙ nearest-is)
 
-  pub root-rounded : round binary32 false (twiceRoot w) (2 ^ 150) ≡ units binary32 false (p + 1) (suc g)
+  pub root-rounded : (s : Bool) → round binary32 s (twiceRoot w) (2 ^ 150) ≡ units binary32 s (p + 1) (suc g)
   unfolding A R
   root-rounded = rounded

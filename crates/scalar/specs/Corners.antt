@@ -8,7 +8,7 @@ use Rattle.scalar.specs.Sign.{abs}
 use Rattle.scalar.specs.Root.{root, rootUnits}
 use Rattle.scalar.specs.Integral.{integral, roundEven}
 use Rattle.scalar.specs.Euclid.{divEuclid, remEuclid}
-use Rattle.scalar.specs.Fused.{mulAdd}
+use Rattle.scalar.specs.Fused.{fusedMultiplyAdd, mulAdd}
 
 abbrev f : ℕ → Float
 f b = ofBits binary32 b
@@ -31,7 +31,7 @@ pub record Corners : Type 0 where
   rounded-twice : add binary32 (mul binary32 (f 0x3f800800) (f 0x3f800800)) (f 0xbf801000) ≡ f 0
 
 pub corners : Corners
-unfolding root rootUnits wholeRoot sizeIn integral remEuclid divEuclid abs mulAdd round rem div lt sub add sum mul ofBits
+unfolding root rootUnits wholeRoot sizeIn integral remEuclid divEuclid abs fusedMultiplyAdd round rem div lt sub add sum mul ofBits
 corners = record {
   root-of-25 = refl;
   root-of-2 = refl;

@@ -8,14 +8,18 @@ use Rattle.scalar.specs.Integral.{trunc}
 abbrev pub zer : Float
 zer = ofBits binary32 0
 
+-- a % b
+abbrev pub remainder : Float → Float → Float
+remainder a b = rem binary32 a b
+
 -- let q = trunc(a / b); if a % b < 0.0 { return if b > 0.0 { q - 1.0 } else { q + 1.0 }; } q
 unfoldable pub divEuclid : Float → Float → Float
 divEuclid a b =
     let q = trunc (div binary32 a b) in
-    cond (lt (rem binary32 a b) zer) (cond (lt zer b) (sub binary32 q one) (add binary32 q one)) q
+    cond (lt (remainder a b) zer) (cond (lt zer b) (sub binary32 q one) (add binary32 q one)) q
 
 -- let r = a % b; if r < 0.0 { r + abs(b) } else { r }
 unfoldable pub remEuclid : Float → Float → Float
 remEuclid a b =
-    let r = rem binary32 a b in
+    let r = remainder a b in
     cond (lt r zer) (add binary32 r (abs b)) r

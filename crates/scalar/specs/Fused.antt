@@ -9,12 +9,16 @@ abbrev pub fused : Bool → ℕ → ℤ → Bool → ℕ → ℤ → Bool → �
 fused s m e t n d u k g =
     sum binary32 (unlike s t) (m * up e * (n * up d) * down g) u (k * up g * (down e * down d)) (down e * down d * down g)
 
--- Where a factor is not finite the product is exact, so that the two operations round as one; so does an infinite c.
-unfoldable pub mulAdd : Float → Float → Float → Float
-mulAdd nan b c = nan
-mulAdd (inf s) b c = add binary32 (mul binary32 (inf s) b) c
-mulAdd (fin s m e) nan c = nan
-mulAdd (fin s m e) (inf t) c = add binary32 (mul binary32 (fin s m e) (inf t)) c
-mulAdd (fin s m e) (fin t n d) nan = nan
-mulAdd (fin s m e) (fin t n d) (inf u) = inf u
-mulAdd (fin s m e) (fin t n d) (fin u k g) = fused s m e t n d u k g
+-- IEEE 754's fusedMultiplyAdd. Where a factor is not finite the product is exact, so that the two operations round as one; so does an infinite c.
+unfoldable pub fusedMultiplyAdd : Float → Float → Float → Float
+fusedMultiplyAdd nan b c = nan
+fusedMultiplyAdd (inf s) b c = add binary32 (mul binary32 (inf s) b) c
+fusedMultiplyAdd (fin s m e) nan c = nan
+fusedMultiplyAdd (fin s m e) (inf t) c = add binary32 (mul binary32 (fin s m e) (inf t)) c
+fusedMultiplyAdd (fin s m e) (fin t n d) nan = nan
+fusedMultiplyAdd (fin s m e) (fin t n d) (inf u) = inf u
+fusedMultiplyAdd (fin s m e) (fin t n d) (fin u k g) = fused s m e t n d u k g
+
+-- `mul_add(a, b, c)`: a times b plus c
+abbrev pub mulAdd : Float → Float → Float → Float
+mulAdd a b c = fusedMultiplyAdd a b c

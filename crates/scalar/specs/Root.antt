@@ -12,9 +12,13 @@ use Rattle.laws.specs.WholeRoot.{wholeRoot}
 abbrev pub twiceRoot : ℕ → ℕ
 twiceRoot n = let r = wholeRoot 214 n in r + r + cond (eqb (r * r) n) 0 1
 
+-- a root's sign: plus
+abbrev pub rootSign : Bool
+rootSign = false
+
 -- n of the smallest values are n * 2 ^ -149, and their root is that of n * 2 ^ 149, in smallest values too.
 unfoldable pub rootUnits : ℕ → Float
-rootUnits n = round binary32 false (twiceRoot (n * 2 ^ 149)) (2 ^ 150)
+rootUnits n = round binary32 rootSign (twiceRoot (n * 2 ^ 149)) (2 ^ 150)
 
 unfoldable pub root : Float → Float
 root nan = nan

@@ -1,7 +1,5 @@
 // Division with a remainder, as src/f32/math.rs has it.
 ghost use mathlib.Core.Path.{_≡_};
-ghost use lib.Ieee as Ieee;
-ghost use lib.Ieee.{binary32};
 ghost use Rattle.scalar.specs.Euclid as Euclid;
 use crate::bits::Parts;
 use crate::bits::decode;
@@ -12,7 +10,7 @@ use crate::sign::abs;
 
 // The operator `%`: m * 2 ^ (k - d) modulo n, times 2 ^ d. Where k < d, b has 24 bits and is larger than a (rem-smaller, rem-rest).
 pub fn rem(a: f32, b: f32) -> f32
-    ensures { λ r. ⌜ r ≡ Ieee.rem binary32 a b ⌝ }
+    ensures { λ r. ⌜ r ≡ Euclid.remainder a b ⌝ }
 {
     let Parts::Fin(s, m, k) = decode(a) else {
         return 0.0 / 0.0;

@@ -1,9 +1,10 @@
-// Whole results: toward zero, downward, to the nearest. Below 2 ^ 23 in size, a + 2 ^ 23 is rounded at the unit's place, ties to even, and the
-// difference is exact (near-whole); from 2 ^ 23 on every float is whole (large-stays).
+// Whole results: toward zero, downward, to the nearest. From 2 ^ 23 on every float is whole (large-stays).
 ghost use mathlib.Core.Path.{_≡_};
-ghost use mathlib.Core.Bool.{not, cond};
-ghost use lib.Dec.{T};
+ghost use mathlib.Core.Bool.{true, not, cond};
+ghost use Prim.Native.Nat.{_-_};
+ghost use lib.Dec.{T, ltb};
 ghost use lib.Ieee as Ieee;
+ghost use lib.Ieee.{binary32};
 ghost use Rattle.scalar.specs.Integral as Integral;
 ghost use Rattle.scalar.specs.Sign as Sign;
 use crate::sign::copysign_bits;
@@ -11,46 +12,63 @@ use crate::sign::copysign_bits;
 // 2 ^ 23: from here on a float has no bit below 1.
 const WHOLE: f32 = 8388608.0;
 
+// Toward zero: the bits that count less than 1 are cleared (cut-bits).
 pub fn trunc(x: f32) -> f32
     ensures { λ r. ⌜ r ≡ Integral.trunc x ⌝ }
 {
     if x != x {
         return x;
     }
-    let a = size(x);
-    if a < WHOLE {
-        let w = (a + WHOLE) - WHOLE;
-        return signed(pick(a < w, w - 1.0, w), x);
-    }
-    x
+    let b = f32::to_bits(x);
+    let d = places(b % 0x8000_0000 / 0x80_0000);
+    f32::from_bits((b >> d) << d)
 }
 
+// Downward: the nearest whole number, or one less where that is above x (floor-near).
 pub fn floor(x: f32) -> f32
     ensures { λ r. ⌜ r ≡ Integral.floor x ⌝ }
 {
     if x != x {
         return x;
     }
-    let a = size(x);
-    if a < WHOLE {
-        let w = signed((a + WHOLE) - WHOLE, x);
+    if size(x) < WHOLE {
+        let w = near(x);
         return pick(x < w, w - 1.0, w);
     }
     x
 }
 
-// To the nearest whole number, a tie to the even one.
+// To the nearest whole number, ties to even.
 pub fn round(x: f32) -> f32
     ensures { λ r. ⌜ r ≡ Integral.roundEven x ⌝ }
 {
     if x != x {
         return x;
     }
-    let a = size(x);
-    if a < WHOLE {
-        return signed((a + WHOLE) - WHOLE, x);
+    if size(x) < WHOLE {
+        return near(x);
     }
     x
+}
+
+// The whole number nearest to a number below 2 ^ 23 in size, ties to even: a + 2 ^ 23 is rounded at the unit's place, and the difference is
+// exact (near-whole).
+fn near(x: f32) -> f32
+    requires { ⌜ T (not (Ieee.isNan x)) ⌝ }
+    requires { ⌜ Ieee.lt (Sign.abs x) (Ieee.ofBits binary32 0x4b000000) ≡ true ⌝ }
+    ensures { λ r. ⌜ r ≡ Integral.roundEven x ⌝ }
+{
+    signed((size(x) + WHOLE) - WHOLE, x)
+}
+
+// How many bits of a pattern count less than 1, e being its exponent: all but the sign's below 1, none from 2 ^ 23 on.
+fn places(e: u32) -> u32
+    ensures { λ d. ⌜ d ≡ cond (ltb e 127) 31 (150 - e) ⌝ }
+{
+    if e < 127 {
+        return 31;
+    }
+    if e < 150 { 150 - e } else { 0 }
 }
 
 // The size of a number.

@@ -1,6 +1,7 @@
 -- The laws and proofs of crate vector, file by file.
 pub mod MaskLaws
 pub mod IndexedLaws
+pub mod AnswerLaws
 pub mod OrderLaws
 pub mod ClampLaws
 pub mod PositionLaws

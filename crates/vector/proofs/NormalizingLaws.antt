@@ -9,10 +9,12 @@ use lib.Ieee.Bits.{is-true, is-false}
 use Rattle.vector.specs.declared.vec3.Vec3.{Vec3}
 use Rattle.vector.specs.declared.vec3.normalizing.Normalized.{Normalized}
 use Rattle.vector.specs.declared.vec3.normalizing.Normalized.the-variants.{Unit, Nothing}
+use Rattle.vector.specs.Vectors.{ZERO}
+use Rattle.vector.specs.Answers.{done, refused}
 use Rattle.vector.specs.Operators.{mulNumber}
 use Rattle.vector.specs.Products.{length, lengthSquared, lengthRecip}
-use Rattle.vector.specs.Normalizing.{usable, tryNormalize, normalizeOr}
-use Rattle.vector.specs.NormalizingMeaning.{zeroInfiniteOrNan, NoneExactly}
+use Rattle.vector.specs.Normalizing.{usable, answerOf, tryNormalize, normalizeOr}
+use Rattle.vector.specs.NormalizingMeaning.{zeroInfiniteOrNan, unitOrNone, NoneExactly}
 use Rattle.vector.proofs.SquaredLengthLaws.{squared-fits, squared-sign}
 use Rattle.vector.proofs.ReciprocalLaws.{usable-exactly}
 
@@ -32,6 +34,15 @@ module _ (a : Vec3) where
   only : (none : Bool) → unless none ≡ Nothing → T none
   only true e = tt
   only false e = let z : _≡_ {A = ℕ} 0 1 = cc in omega arith
+
+  -- the same in the paper's number and values, of whatever is that answer
+  pub shown : {r : Normalized} → r ≡ tryNormalize a → (r ≡ tryNormalize a) × (answerOf r ≡ unitOrNone a)
+  unfolding unitOrNone
+  shown e = (e, ap answerOf (e ∙ answer-is) ∙ go (zeroInfiniteOrNan (lengthSquared a)))
+    where
+      go : (none : Bool) → answerOf (unless none) ≡ cond none (refused 7 ZERO) (done (mulNumber a (lengthRecip a)))
+      go true = refl
+      go false = refl
 
   pub none-exactly : NoneExactly a
   none-exactly = record {

@@ -1,15 +1,17 @@
--- The positions are at most 2; without NaNs they are those of the first least and of the first greatest component. Assumes nothing.
+-- The positions are at most 2; without NaNs they are those of the first least and of the first greatest component, of which there is one. Assumes nothing.
 use mathlib.Core.Path.{_≡_}
-use mathlib.Core.Bool.{Bool, true, false, not, _||_, cond, true≢false}
-use Prim.Native.Nat.{ℕ, zero, suc, _≤_, _<_}
+use mathlib.Core.Bool.{Bool, true, false, not, cond}
+use Prim.Native.Nat.{ℕ, _≤_, _<_}
+use native.Mathlib.Nat.{le-antisymm}
 use native.Mathlib.Omega.{arith}
-use lib.Dec.{T, lit≤}
+use lib.Dec.{T, ltb, not-T, ltb→lt, nltb→le, lit≤}
 use lib.Ieee.{Float, lt, isNan}
 use Rattle.vector.specs.declared.vec3.Vec3.{Vec3}
 use Rattle.vector.specs.Indexed.{indexed, component}
 use Rattle.vector.specs.Comparisons as Comparisons
 use Rattle.vector.specs.Elements.{gt, position, minPosition, maxPosition}
 use Rattle.vector.specs.ElementsMeaning.{Positions, at, First}
+use Rattle.vector.proofs.IndexedLaws.{by-index, number-at}
 use Rattle.vector.proofs.OrderLaws.{lt-once, lt-split}
 
 position-small : (before : Float → Float → Bool) (a : Vec3) → position before a ≤ 2
@@ -23,16 +25,24 @@ position-small before a = go (before (a .z) (cond (before (a .y) (a .x)) (a .y) 
 
 pub positions : (a : Vec3) → Positions a
 unfolding minPosition maxPosition
-positions a = record { least = position-small lt a; greatest = position-small gt a }
+positions a = record { least = position-small _ a; greatest = position-small _ a }
+
+-- ---- a first index is the only one
+clash : (b : Bool) → T b → T (not b) → ⊥
+clash true t f = f
+
+module _ (before : Float → Float → Bool) (a : Vec3) where
+  not-above : (i j : ℕ) → First before a i → First before a j → j ≤ i
+  not-above i j p q =
+      nltb→le i j
+      (not-T (ltb i j) (λ t.
+      let h = ltb→lt i j t in
+      clash (before (at a j) (at a i)) (q .lower i (omega arith)) (p .none j (omega arith))))
+
+  pub first-unique : (i j : ℕ) → First before a i → First before a j → i ≡ j
+  first-unique i j p q = le-antisymm (not-above j i q p) (not-above i j p q)
 
 -- ---- the positions are the first ones
-
--- for each index
-by-index : (P : ℕ → Type 0) → P 0 → P 1 → P 2 → (j : ℕ) → j ≤ 2 → P j
-by-index P x y z zero h = x
-by-index P x y z (suc zero) h = y
-by-index P x y z (suc (suc zero)) h = z
-by-index P x y z (suc (suc (suc j))) h = absurd (omega arith)
 
 module _ (before : Float → Float → Bool)
     (once : (x y : Float) → T (before x y) → T (not (before y x)))
@@ -48,6 +58,7 @@ module _ (before : Float → Float → Bool)
     at-0 : T (not (before (a .y) (a .x))) → T (not (before (a .z) (a .x))) → First before a 0
     unfolding component indexed
     at-0 y z = record {
+      within = lit≤ tt;
       none = by-index (λ (j : ℕ). T (not (before (at a j) (a .x)))) (never (a .x)) y z;
       lower = λ j h. absurd (omega arith);
     }
@@ -55,6 +66,7 @@ module _ (before : Float → Float → Bool)
     at-1 : T (before (a .y) (a .x)) → T (not (before (a .z) (a .y))) → First before a 1
     unfolding component indexed
     at-1 x z = record {
+      within = lit≤ tt;
       none = by-index (λ (j : ℕ). T (not (before (at a j) (a .y)))) (once (a .y) (a .x) x) (never (a .y)) z;
       lower = λ j h. by-index (λ (j : ℕ). j < 1 → T (before (a .y) (at a j))) (λ h. x) (λ h. absurd (omega arith)) (λ h. absurd (omega arith)) j (omega arith) h;
     }
@@ -62,6 +74,7 @@ module _ (before : Float → Float → Bool)
     at-2 : T (before (a .z) (a .x)) → T (before (a .z) (a .y)) → First before a 2
     unfolding component indexed
     at-2 x y = record {
+      within = lit≤ tt;
       none = by-index (λ (j : ℕ). T (not (before (at a j) (a .z)))) (once (a .z) (a .x) x) (once (a .z) (a .y) y) (never (a .z));
       lower = λ j h. by-index (λ (j : ℕ). j < 2 → T (before (a .z) (at a j))) (λ h. x) (λ h. y) (λ h. absurd (omega arith)) j (omega arith) h;
     }
@@ -92,26 +105,14 @@ module _ (before : Float → Float → Bool)
 gt-split : (z x y : Float) → T (not (isNan y)) → T (gt z x) → T (not (gt y x)) → T (gt z y)
 gt-split z x y n h k = go (lt y z) (λ (f : T (not (lt y z))). clash (lt x y) (lt-split x z y n h f) k)
   where
-    clash : (b : Bool) → T b → T (not b) → ⊥
-    clash true t f = f
-
     go : (b : Bool) → (T (not b) → ⊥) → T b
     go true f = tt
     go false f = absurd (f tt)
 
-numbers : (a : Vec3) → Comparisons.isNan a ≡ false → T (not (isNan (a .x))) × T (not (isNan (a .y)))
-unfolding Comparisons.isNan
-numbers a = go (isNan (a .x)) (isNan (a .y)) (isNan (a .z))
-  where
-    go : (p q r : Bool) → p || q || r ≡ false → T (not p) × T (not q)
-    go false false r e = (tt, tt)
-    go false true r e = absurd (true≢false e)
-    go true q r e = absurd (true≢false e)
-
 pub first-least : (a : Vec3) → Comparisons.isNan a ≡ false → First lt a (minPosition a)
-unfolding minPosition
-first-least a n = is-first lt lt-once lt-split a (numbers a n .0) (numbers a n .1)
+unfolding minPosition component indexed
+first-least a n = is-first lt lt-once lt-split a (number-at a n 0 (lit≤ tt)) (number-at a n 1 (lit≤ tt))
 
 pub first-greatest : (a : Vec3) → Comparisons.isNan a ≡ false → First gt a (maxPosition a)
-unfolding maxPosition
-first-greatest a n = is-first gt (λ (x y : Float). lt-once y x) gt-split a (numbers a n .0) (numbers a n .1)
+unfolding maxPosition component indexed
+first-greatest a n = is-first gt (λ (x y : Float). lt-once y x) gt-split a (number-at a n 0 (lit≤ tt)) (number-at a n 1 (lit≤ tt))

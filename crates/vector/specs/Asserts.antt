@@ -1,13 +1,22 @@
 -- What the text of each function in src/f32/vec3.rs asserts by glam_assert, worked out in f32 from its arguments (document 01, "The plain sheet":
 -- "A Rust function's glam_assert condition is all that its text asserts by that macro"). The macro is off, so that no answer depends on these.
 use mathlib.Core.Bool.{Bool, _&&_}
-use lib.Ieee.{Float, lt, le}
+use lib.Ieee.{Float, lt, le, ne}
 use lib.Ieee.Scale.{finite}
 use Rattle.vector.specs.declared.vec3.Vec3.{Vec3}
+use Rattle.vector.specs.declared.vec4.Vec4.{Vec4}
 use Rattle.vector.specs.Vectors.{zer}
 use Rattle.vector.specs.Products.{lengthSquared}
 use Rattle.vector.specs.Normalizing.{normalize, isNormalized}
 use Rattle.vector.specs.Projections.{otherLenSqRcp}
+
+-- glam_assert!(v.w != 0.0)
+unfoldable pub assertsFromHomogeneous : Vec4 → Bool
+assertsFromHomogeneous v = ne (v .w) zer
+
+-- glam_assert!(min.cmple(max).all())
+unfoldable pub assertsClamp : Vec3 → Vec3 → Vec3 → Bool
+assertsClamp a min max = le (min .x) (max .x) && le (min .y) (max .y) && le (min .z) (max .z)
 
 -- glam_assert!(normalized.is_finite())
 unfoldable pub assertsNormalize : Vec3 → Bool

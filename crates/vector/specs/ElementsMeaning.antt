@@ -18,7 +18,7 @@ pub record Clamped (lo hi r : Vec3) : Type 0 where
   pub above : AtMost lo r
   pub below : AtMost r hi
 
--- the positions are 0, 1 or 2
+-- the positions are 0, 1 or 2, of every vector: one with a NaN too
 pub record Positions (a : Vec3) : Type 0 where
   pub least : minPosition a ≤ 2
   pub greatest : maxPosition a ≤ 2
@@ -28,7 +28,8 @@ abbrev pub at : Vec3 → ℕ → Float
 at a i = component a i .value
 
 -- i is the first index of the least component, where `before` is <, and of the greatest, where it is >:
--- no component comes before that one, and it comes before each one with a lower index
+-- it is an index, no component comes before that one, and it comes before each one with a lower index
 pub record First (before : Float → Float → Bool) (a : Vec3) (i : ℕ) : Type 0 where
+  pub within : i ≤ 2
   pub none : (j : ℕ) → j ≤ 2 → T (not (before (at a j) (at a i)))
   pub lower : (j : ℕ) → j < i → T (before (at a i) (at a j))

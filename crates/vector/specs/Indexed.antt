@@ -1,4 +1,4 @@
--- An element by its index (document 01, "Refused, and by whose doing": "10, a component or `test` index above 2"; "Returned: the number, .. zeros").
+-- An element by its index (document 01, "Refused, and by whose doing": "10, a component or `test` index above 2").
 use Prim.Native.Nat.{ℕ}
 use mathlib.Core.Bool.{cond}
 use lib.Dec.{eqb}
@@ -6,17 +6,10 @@ use lib.Ieee.{Float}
 use Rattle.vector.specs.declared.vec3.Vec3.{Vec3}
 use Rattle.vector.specs.declared.vec3.index.Component.{Component}
 use Rattle.vector.specs.Vectors.{zer}
-
--- What an answer shows: a refusal's number, 0 for none, and a value, the zero where it is refused.
-pub record Answer (A : Type 0) : Type 0 where
-  pub refusal : ℕ
-  pub value : A
-
-abbrev pub done : {A : Type 0} → A → Answer A
-done v = record { refusal = 0; value = v }
+use Rattle.vector.specs.Answers.{Answer, done, refused}
 
 abbrev pub outOfRange : {A : Type 0} → A → Answer A
-outOfRange zero = record { refusal = 10; value = zero }
+outOfRange zero = refused 10 zero
 
 -- match index { 0 => self.x, 1 => self.y, 2 => self.z, _ => panic!("index out of bounds") }
 unfoldable pub indexed : {A : Type 0} → A → A → A → A → ℕ → Answer A

@@ -1,5 +1,6 @@
 -- The definitions of crate vector, file by file.
 pub mod Vectors
+pub mod Answers
 pub mod Masks
 pub mod Indexed
 pub mod Operators
@@ -7,6 +8,7 @@ pub mod Elements
 pub mod ElementsMeaning
 pub mod Comparisons
 pub mod Signs
+pub mod SignsMeaning
 pub mod Products
 pub mod Normalizing
 pub mod NormalizingMeaning

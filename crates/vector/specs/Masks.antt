@@ -4,7 +4,8 @@ use mathlib.Core.Bool as Bools
 use mathlib.Core.Bool.{Bool, false, cond, _&&_, _||_}
 use Rattle.vector.specs.declared.bvec3.BVec3.{BVec3}
 use Rattle.vector.specs.declared.bvec3.Tested.{Tested}
-use Rattle.vector.specs.Indexed.{Answer, done, outOfRange, indexed}
+use Rattle.vector.specs.Answers.{Answer, done}
+use Rattle.vector.specs.Indexed.{outOfRange, indexed}
 
 abbrev pub mask : Bool → Bool → Bool → BVec3
 mask x y z = record { x = x; y = y; z = z }

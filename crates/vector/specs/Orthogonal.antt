@@ -1,14 +1,26 @@
 -- Vectors at right angles to a given one, as src/f32/vec3.rs has them.
-use mathlib.Core.Bool.{cond}
+use mathlib.Core.Bool.{Bool, cond}
 use lib.Ieee.{Float, binary32, neg, add, mul, div, lt}
 use Rattle.scalar.specs.Sign.{abs, signum}
 use Rattle.vector.specs.declared.vec3.Vec3.{Vec3}
 use Rattle.vector.specs.declared.vec3.orthogonal.Pair.{Pair}
 use Rattle.vector.specs.Vectors.{vec, zer, one}
 
+-- abs(self.x) > abs(self.y)
+abbrev pub xLarger : Vec3 → Bool
+xLarger a = lt (abs (a .y)) (abs (a .x))
+
+-- new(-self.z, 0.0, self.x), which is self.cross(Self::Y)
+abbrev pub crossY : Vec3 → Vec3
+crossY a = vec (neg (a .z)) zer (a .x)
+
+-- new(0.0, self.z, -self.y), which is self.cross(Self::X)
+abbrev pub crossX : Vec3 → Vec3
+crossX a = vec zer (a .z) (neg (a .y))
+
 -- if abs(self.x) > abs(self.y) { new(-self.z, 0.0, self.x) } else { new(0.0, self.z, -self.y) }
 unfoldable pub anyOrthogonalVector : Vec3 → Vec3
-anyOrthogonalVector a = cond (lt (abs (a .y)) (abs (a .x))) (vec (neg (a .z)) zer (a .x)) (vec zer (a .z) (neg (a .y)))
+anyOrthogonalVector a = cond (xLarger a) (crossY a) (crossX a)
 
 -- let a = -1.0 / (sign + self.z), with sign = math::signum(self.z)
 abbrev pub scaleOf : Float → Float

@@ -1,9 +1,10 @@
 -- Signs of the elements (document 01, "Masks and vectors": "`abs` of a vector acts on each component"), as src/f32/vec3.rs has them.
 use Prim.Native.Nat.{ℕ}
+use lib.Ieee.{binary32, ofBits}
 use Rattle.laws.specs.Exact.{negative}
 use Rattle.scalar.specs.Sign as Sign
 use Rattle.vector.specs.declared.vec3.Vec3.{Vec3}
-use Rattle.vector.specs.Vectors.{each, both}
+use Rattle.vector.specs.Vectors.{vec, each, both}
 use Rattle.vector.specs.Masks.{mask, bitmask}
 use Rattle.vector.specs.Comparisons.{eachTest}
 
@@ -23,6 +24,16 @@ copysign a b = both Sign.copysign a b
 unfoldable pub isNegativeBitmask : Vec3 → ℕ
 isNegativeBitmask a = bitmask (eachTest negative a)
 
--- the same of three bit patterns
+-- ---- on bit patterns, where each NaN has its sign
+
+-- the vector of three bit patterns
+abbrev pub ofPatterns : ℕ → ℕ → ℕ → Vec3
+ofPatterns x y z = vec (ofBits binary32 x) (ofBits binary32 y) (ofBits binary32 z)
+
+-- the elements x, y, z with the signs of a, b, c
+unfoldable pub copysignBits : ℕ → ℕ → ℕ → ℕ → ℕ → ℕ → Vec3
+copysignBits x y z a b c = ofPatterns (Sign.copysignBits x a) (Sign.copysignBits y b) (Sign.copysignBits z c)
+
+-- the sign bits of x, y, z
 unfoldable pub isNegativeBitmaskBits : ℕ → ℕ → ℕ → ℕ
 isNegativeBitmaskBits x y z = bitmask (mask (Sign.signBit x) (Sign.signBit y) (Sign.signBit z))

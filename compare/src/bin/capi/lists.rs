@@ -9,8 +9,8 @@ use compare::tally::Tally;
 use compare::values::Draw;
 
 /// The numbers of a command and of an answer.
-const COMMAND: usize = 7;
-const ANSWER: usize = 6;
+pub const COMMAND: usize = 7;
+pub const ANSWER: usize = 6;
 
 /// Up to so many numbers lie on each side of what is lent; fewer are lent beyond the answers.
 const SPARE: u32 = 32;
@@ -108,7 +108,7 @@ fn right_refusal(count: usize, lent: usize) -> u32 {
     }
 }
 
-fn numbers_of(command: &Command) -> [u32; COMMAND] {
+pub fn numbers_of(command: &Command) -> [u32; COMMAND] {
     let [u, v, w] = command.values;
     [command.number, command.t, command.a, command.b, u, v, w]
 }

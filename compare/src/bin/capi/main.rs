@@ -3,6 +3,7 @@
 mod library;
 mod lists;
 mod scalars;
+mod timing;
 
 use std::env;
 use std::error::Error;
@@ -10,7 +11,9 @@ use std::process::ExitCode;
 
 const USAGE: &str = "usage:
   compare/capi SEED COUNT  COUNT calls of the functions on numbers, then lists of COUNT commands, by the seed
-  compare/capi --every     each function of one number on every number";
+  compare/capi --every     each function of one number on every number
+  compare/capi --time TURNS COUNT
+                           the time of a list of COUNT commands, beside the plain sheet's";
 
 /// How many differences are printed.
 const PRINTED: u64 = 20;
@@ -49,6 +52,10 @@ fn run(words: &[&str]) -> Result<ExitCode, Box<dyn Error>> {
         ["--every"] => {
             scalars::compare_every(&mut account);
             true
+        }
+        ["--time", turns, count] => {
+            let equal = timing::time(turns.parse()?, count.parse()?);
+            return Ok(if equal { ExitCode::SUCCESS } else { ExitCode::FAILURE });
         }
         [seed, count] => {
             let (seed, count) = (seed.parse()?, count.parse()?);

@@ -1,6 +1,7 @@
 // Unit vectors: the five normalising functions, and the test for a unit vector.
 ghost use mathlib.Core.Path.{_≡_};
 ghost use Rattle.vector.specs.Normalizing as Normalizing;
+ghost use Rattle.vector.specs.NormalizingMeaning as Meaning;
 use crate::vec3::Vec3;
 use scalar::sign::abs;
 use scalar::sign::is_finite;
@@ -35,6 +36,7 @@ impl Vec3 {
     // self at length 1.0 if possible.
     pub fn try_normalize(self) -> Normalized
         ensures { λ r. ⌜ r ≡ Normalizing.tryNormalize self ⌝ }
+        ensures { λ r. ⌜ Normalizing.answerOf r ≡ Meaning.unitOrNone self ⌝ }
     {
         let rcp = self.length_recip();
         if usable(rcp) {

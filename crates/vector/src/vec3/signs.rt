@@ -3,8 +3,10 @@ ghost use mathlib.Core.Path.{_≡_};
 ghost use Rattle.vector.specs.Signs as Signs;
 use crate::bvec3::BVec3;
 use crate::vec3::Vec3;
+use scalar::bits::from_bits;
 use scalar::sign::abs;
 use scalar::sign::copysign;
+use scalar::sign::copysign_bits;
 use scalar::sign::is_sign_negative;
 use scalar::sign::is_sign_negative_bits;
 use scalar::sign::signum;
@@ -63,5 +65,15 @@ impl Vec3 {
             is_sign_negative_bits(y),
             is_sign_negative_bits(z),
         ).bitmask()
+    }
+    // The elements x, y, z with the signs of a, b, c, all of them bit patterns, NaNs included.
+    pub fn copysign_bits(x: u32, y: u32, z: u32, a: u32, b: u32, c: u32) -> Vec3
+        ensures { λ r. ⌜ r ≡ Signs.copysignBits x y z a b c ⌝ }
+    {
+        Vec3 {
+            x: from_bits(copysign_bits(x, a)),
+            y: from_bits(copysign_bits(y, b)),
+            z: from_bits(copysign_bits(z, c)),
+        }
     }
 }

@@ -3,7 +3,6 @@ use mathlib.Core.Path.{sym, ap, _∙_, subst}
 use Prim.Native.Nat.{ℕ, _*_, _^_, _<_}
 use native.Mathlib.Nat.{lt-trans, mod-lt}
 use native.Mathlib.Omega.{arith}
-use lib.Dec.{T}
 use lib.Ieee.{binary32, round}
 use borrow.Author.Needs.{needs}
 use Rattle.scalar.specs.Parts.{Decoded}
@@ -59,8 +58,7 @@ returns-2 c =
 returns-3 : tie.Need-returns-3
 returns-3 c =
     let n = c .before .before .before in
-    let s = first n .before .before .before in
-    rem-smaller _ _ _ _ _ (dividend (first n) .0) _ _ _ (divisor n .0) (some (c .before)) (subst T (sym (s .good .0 .1)) tt) (dividend (first n) .1) (divisor n .1) (c .if2 .taken)
+    rem-smaller _ _ _ _ _ (dividend (first n) .0) _ _ _ (divisor n .0) (some (c .before)) (dividend (first n) .1) (divisor n .1) (c .if2 .taken)
 
 rest-requires : tie.Need-rest-requires
 rest-requires c κs =

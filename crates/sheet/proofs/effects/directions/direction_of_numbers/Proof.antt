@@ -25,7 +25,7 @@ returns-2 : tie.Need-returns-2
 unfolding directionOf
 returns-2 c =
     simp (
-      ← c .try-normalize .ensures,
+      ← c .try-normalize .ensures .0,
       c .before .if2 .taken,
       ← c .before .before .is-finite .ensures,
       c .before .before .before .if1 .left,

@@ -1,0 +1,54 @@
+// The functions that look at a sign bit: those on numbers where no argument is a NaN, else those on bit patterns, in which a NaN has its sign.
+// Both give the same wherever no NaN is asked for its sign (BitSignLaws of scalar, SignsLaws of vector).
+ghost use mathlib.Core.Path.{_≡_};
+ghost use lib.Ieee as Ieee;
+ghost use Rattle.scalar.specs.Sign as Sign;
+ghost use Rattle.vector.specs.Signs as Signs;
+use crate::forms::vector_of;
+use scalar::bits::from_bits;
+use scalar::sign;
+use scalar::sign::is_nan;
+use vector::vec3::Vec3;
+
+pub(crate) fn negative(a: u32) -> bool
+    ensures { λ r. ⌜ r ≡ Sign.signBit a ⌝ }
+{
+    let x = from_bits(a);
+    if is_nan(x) {
+        return sign::is_sign_negative_bits(a);
+    }
+    sign::is_sign_negative(x)
+}
+
+pub(crate) fn copysign(a: u32, b: u32) -> f32
+    ensures { λ r. ⌜ r ≡ Ieee.ofBits Ieee.binary32 (Sign.copysignBits a b) ⌝ }
+{
+    let x = from_bits(a);
+    let y = from_bits(b);
+    if is_nan(x) | is_nan(y) {
+        return from_bits(sign::copysign_bits(a, b));
+    }
+    sign::copysign(x, y)
+}
+
+pub(crate) fn negative_bitmask(x: u32, y: u32, z: u32) -> u32
+    ensures { λ r. ⌜ r ≡ Signs.isNegativeBitmaskBits x y z ⌝ }
+{
+    let v = vector_of(x, y, z);
+    if v.is_nan() {
+        return Vec3::is_negative_bitmask_bits(x, y, z);
+    }
+    v.is_negative_bitmask()
+}
+
+// The vector (x, y, z) with the signs of (a, b, c).
+pub(crate) fn copysign_all(x: u32, y: u32, z: u32, a: u32, b: u32, c: u32) -> Vec3
+    ensures { λ r. ⌜ r ≡ Signs.copysignBits x y z a b c ⌝ }
+{
+    let v = vector_of(x, y, z);
+    let w = vector_of(a, b, c);
+    if v.is_nan() | w.is_nan() {
+        return Vec3::copysign_bits(x, y, z, a, b, c);
+    }
+    v.copysign(w)
+}
