@@ -1,15 +1,18 @@
--- The sets of commands that use b, u, v and w, as bits and as document 01's lists: one test over the numbers below 33, and none from there on. Assumes nothing.
-use mathlib.Core.Path.{_≡_, refl, sym}
-use mathlib.Core.Bool.{Bool, true, false, _&&_, Bool·beq}
-use mathlib.Core.List.{List, [], _∷_}
+-- A set of commands in the bits of a word is a column of the table, if the two agree at each number up to `last` and at the next one: from there on the table has
+-- no row and the set no command. Assumes nothing.
+use mathlib.Core.Path.{_≡_, refl, _∙_, sym, ap}
+use mathlib.Core.Bool.{Bool, true, false, cond, not, _&&_, Bool·beq, Bool·not-not}
 use Prim.Native.Nat.{ℕ, zero, suc, _≤_, _<_}
-use native.Mathlib.Nat.{not-suc-le-zero, le-of-suc-le-suc}
+use native.Mathlib.Nat.{not-suc-le-zero, le-of-suc-le-suc, le-refl}
 use native.Mathlib.Omega.{arith}
-use lib.Dec.{T, ltb, ltb→lt, nltb→le}
+use lib.Dec.{T, eqb, ltb, ltb→lt, nltb→le}
+use lib.ListN.{List·getD-eq-default}
 use lib.Ieee.Fits.{and-l, and-r}
-use borrow.Author.Tests.{ne-eqb}
+use borrow.Author.Tests.{lt-leb}
 use Rattle.laws.proofs.BoolLaws.{beq-same}
-use Rattle.sheet.specs.Fields.{among}
+use Rattle.sheet.specs.Codes.{last, emptyKind}
+use Rattle.sheet.specs.Results.{isDirection}
+use Rattle.sheet.specs.Commands.{Kinds, Filled, Directions, allows, Entry, table, entryAt}
 use Rattle.sheet.specs.CommandSets.{inSet}
 
 -- ---- a test that passes at each number below k
@@ -22,23 +25,40 @@ below p zero n t h = absurd (not-suc-le-zero h)
 below p (suc k) zero t h = and-l (p zero) (allBelow (λ (n : ℕ). p (suc n)) k) t
 below p (suc k) (suc n) t h = below (λ (m : ℕ). p (suc m)) k n (and-r (p zero) (allBelow (λ (n : ℕ). p (suc n)) k) t) (le-of-suc-le-suc h)
 
--- ---- a list of numbers below 33 has none from 33 on
-abbrev pub low : List ℕ → Bool
-low [] = true
-low (k ∷ rest) = ltb k 33 && low rest
+-- ---- above `last` all is as at the number next to it
+entry-above : (n : ℕ) → last < n → entryAt n ≡ entryAt (suc last)
+unfolding entryAt table
+entry-above n h = List·getD-eq-default table _ h
 
-none-above : (l : List ℕ) (n : ℕ) → T (low l) → 33 ≤ n → among n l ≡ false
-unfolding among
-none-above [] n t h = refl
-none-above (k ∷ rest) n t h =
-    let b : k < 33 = ltb→lt k 33 (and-l (ltb k 33) (low rest) t) in
-    simp (ne-eqb n k (λ e. absurd (omega (arith, e))), none-above rest n (and-r (ltb k 33) (low rest) t) h)
-
--- ---- so a word's bits are a list's numbers, if they are so below 33
-pub set-is : (set : ℕ) (l : List ℕ) (n : ℕ) → T (low l) → T (allBelow (λ (k : ℕ). Bool·beq (inSet set k) (among k l)) 33) → inSet set n ≡ among n l
+none-above : (set n : ℕ) → last < n → inSet set n ≡ false
 unfolding inSet
-set-is set l n t u = go (ltb n 33) refl
+none-above set n h = rw (lt-leb n last h)
+
+-- ---- so agreement up to there is agreement at every number
+abbrev pub agree : ℕ → (Entry → Bool) → ℕ → Bool
+agree set f n = Bool·beq (inSet set n) (f (entryAt n))
+
+abbrev pub isColumn : ℕ → (Entry → Bool) → Bool
+isColumn set f = allBelow (agree set f) (suc (suc last))
+
+pub column : (set n : ℕ) (f : Entry → Bool) {r : Bool} → r ≡ inSet set n → T (isColumn set f) → r ≡ f (entryAt n)
+column set n f e t = e ∙ go (ltb last n) refl
   where
-    go : (b : Bool) → ltb n 33 ≡ b → inSet set n ≡ among n l
-    go true e = beq-same (inSet set n) (among n l) (below (λ (k : ℕ). Bool·beq (inSet set k) (among k l)) 33 n u (ltb→lt n 33 (rw e tt)))
-    go false e = rw e (sym (none-above l n t (nltb→le n 33 (rw e tt))))
+    at : (k : ℕ) → k < suc (suc last) → inSet set k ≡ f (entryAt k)
+    at k h = beq-same (inSet set k) (f (entryAt k)) (below (agree set f) (suc (suc last)) k t h)
+
+    go : (b : Bool) → ltb last n ≡ b → inSet set n ≡ f (entryAt n)
+    go true u =
+        let h : last < n = ltb→lt last n (rw u tt) in
+        none-above set n h ∙ sym (none-above set (suc last) (le-refl _)) ∙ at (suc last) (le-refl _) ∙ ap f (sym (entry-above n h))
+    go false u = at n (let h : n ≤ last = nltb→le last n (rw u tt) in omega arith)
+
+-- ---- which kinds are refused, by whether directions are asked for
+abbrev pub asksDirections : Kinds → Bool
+asksDirections Filled = false
+asksDirections Directions = true
+
+pub kind-refused : (k : Kinds) (kind : ℕ) → not (allows k kind) ≡ cond (asksDirections k) (not (isDirection kind)) (eqb kind emptyKind)
+unfolding allows
+kind-refused Filled kind = Bool·not-not (eqb kind emptyKind)
+kind-refused Directions kind = refl

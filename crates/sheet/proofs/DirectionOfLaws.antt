@@ -1,5 +1,5 @@
 -- "Direction of" a vector (specs/Results): what refusal 7 lets pass is accepted by law U of crate vector, and the row gets the direction that
--- `try_normalize` gives. Assumes nothing.
+-- `try_normalize` gives, in f32 numbers. Assumes nothing.
 use Prim.Native.Nat.{ℕ, _*_, _^_}
 use native.Mathlib.Omega.{arith}
 use mathlib.Core.Path.{_≡_, refl, sym, _∙_, ap, subst}
@@ -7,16 +7,30 @@ use mathlib.Core.Bool.{Bool, true, false, cond, true≢false}
 use lib.Dec.{T}
 use denote.Floats.{passes}
 use Rattle.laws.specs.Within.{Within}
+use Rattle.laws.proofs.BoolLaws.{cond-any}
 use Rattle.vector.specs.declared.vec3.Vec3.{Vec3}
-use Rattle.vector.specs.declared.vec3.normalizing.Normalized.the-variants.{Nothing}
-use Rattle.vector.specs.Normalizing.{tryNormalize}
+use Rattle.vector.specs.declared.vec3.normalizing.Normalized.{Normalized}
+use Rattle.vector.specs.declared.vec3.normalizing.Normalized.the-variants.{Unit, Nothing}
+use Rattle.vector.specs.Products.{lengthRecip}
+use Rattle.vector.specs.Normalizing.{usable, tryNormalize}
 use Rattle.vector.specs.ExactVectors.{F32Vec, UnitWithin, Direction, exactSquare}
 use Rattle.vector.specs.DirectionOf.{acceptable}
 use Rattle.vector.specs.NumericLaws.{HasDirection}
+use Rattle.vector.proofs.VectorFits.{zero-vector, scaled-vector}
 use Rattle.vector.proofs.UnitLaws.{law-u}
 use Rattle.sheet.specs.Results.{directionOf}
 use Rattle.sheet.specs.Refusals.{isNothing}
-use Rattle.sheet.specs.Model.{taken}
+use Rattle.sheet.specs.Effects.{taken}
+
+-- ---- f32 numbers, whether there is a direction or not
+abbrev FitTaken : Normalized → Type 0
+FitTaken d = F32Vec (taken d)
+
+pub direction-fits : (v : Vec3) → F32Vec (taken (directionOf v))
+unfolding taken directionOf tryNormalize
+direction-fits v =
+    cond-any FitTaken (acceptable v) _ Nothing (cond-any FitTaken (usable (lengthRecip v)) (Unit _) Nothing (scaled-vector v (lengthRecip v)) zero-vector)
+    zero-vector
 
 -- ---- what refusal 7 lets pass
 pub record Aimed (v : Vec3) : Type 0 where

@@ -3,15 +3,6 @@ use borrow.Author.Tests.{eq-eqb, ne-eqb}
 use Rattle.sheet.proofs.refusal.no_next_row.Statement.{statement}
 use Rattle.sheet.proofs.refusal.no_next_row.Tie as tie
 
-returns : tie.Need-returns
-returns c =
-    simp
-    (eq-eqb _ _ (c .if1 .taken))
-
-returns-2 : tie.Need-returns-2
-returns-2 c =
-    simp
-    (ne-eqb _ _ (c .if1 .left))
-
 pub no-next-row-spec : {M : Type 1} → statement M
-no-next-row-spec = tie.close (tie.spec returns returns-2)
+no-next-row-spec =
+    tie.close (tie.spec (λ c. simp (eq-eqb _ _ (c .if1 .taken))) (λ c. simp (ne-eqb _ _ (c .if1 .left))))

@@ -1,94 +1,49 @@
 -- `sheet::refusal::no_row` meets its contract. Assumes nothing.
-use Rattle.sheet.specs.Refusals.{noRow}
+use Prim.Native.Nat.{ℕ}
+use mathlib.Core.Path.{_≡_}
+use mathlib.Core.Bool.{Bool, false, _&&_}
+use lib.Dec.{ltb}
 use borrow.Author.Needs.{needs}
+use Rattle.sheet.specs.Commands.{entryAt}
+use Rattle.sheet.specs.Refusals.{noRow}
 use Rattle.sheet.proofs.refusal.no_row.Statement.{statement}
 use Rattle.sheet.proofs.refusal.no_row.Tie as tie
 
-uses-t-requires : tie.Need-uses-t-requires
-uses-t-requires c κs = search needs
+-- ---- the places behind the three tests, and what each test has told
+abbrev start : tie.Else1 → tie.Start
+start p = p .before .before .before
 
-row-out-requires : tie.Need-row-out-requires
-row-out-requires c κs = search needs
+abbrev one : tie.Else2 → tie.Else1
+one p = p .before .before .before
 
-returns : tie.Need-returns
-unfolding noRow
-returns c =
-    simp (
-      c .if1 .taken,
-      ← c .before .row-out .ensures,
-      ← c .before .before .uses-t .ensures,
-    )
+abbrev two : tie.Else3 → tie.Else2
+two p = p .before .before .before
 
-uses-a-requires : tie.Need-uses-a-requires
-uses-a-requires c κs = search needs
+abbrev Within : Bool → ℕ → Type 0
+Within used i = (used && ltb 63 i) ≡ false
 
-row-out-requires-2 : tie.Need-row-out-requires-2
-row-out-requires-2 c κs = search needs
+t-within : (p : tie.Else1) → Within (entryAt (start p .args .c .number) .uses .t) (start p .args .c .t)
+t-within p = simp (p .if1 .left, ← p .before .row-out .ensures, ← p .before .before .uses-t .ensures)
 
-returns-2 : tie.Need-returns-2
-unfolding noRow
-returns-2 c =
-    simp (
-      c .if2 .taken,
-      ← c .before .row-out2 .ensures,
-      ← c .before .before .uses-a .ensures,
-      c .before .before .before .if1 .left,
-      ← c .before .before .before .before .row-out .ensures,
-      ← c .before .before .before .before .before .uses-t .ensures,
-    )
+a-within : (p : tie.Else2) → Within (entryAt (start (one p) .args .c .number) .uses .a) (start (one p) .args .c .a)
+a-within p = simp (p .if2 .left, ← p .before .row-out2 .ensures, ← p .before .before .uses-a .ensures)
 
-uses-b-requires : tie.Need-uses-b-requires
-uses-b-requires c κs = search needs
-
-row-out-requires-3 : tie.Need-row-out-requires-3
-row-out-requires-3 c κs = search needs
-
-returns-3 : tie.Need-returns-3
-unfolding noRow
-returns-3 c =
-    simp (
-      c .if3 .taken,
-      ← c .before .row-out3 .ensures,
-      ← c .before .before .uses-b .ensures,
-      c .before .before .before .if2 .left,
-      ← c .before .before .before .before .row-out2 .ensures,
-      ← c .before .before .before .before .before .uses-a .ensures,
-      c .before .before .before .before .before .before .if1 .left,
-      ← c .before .before .before .before .before .before .before .row-out .ensures,
-      ← c .before .before .before .before .before .before .before .before .uses-t .ensures,
-    )
-
-no-next-row-requires : tie.Need-no-next-row-requires
-no-next-row-requires c κs = search needs
-
-returns-4 : tie.Need-returns-4
-unfolding noRow
-returns-4 c =
-    simp (
-      ← c .no-next-row .ensures,
-      c .before .if3 .left,
-      ← c .before .before .row-out3 .ensures,
-      ← c .before .before .before .uses-b .ensures,
-      c .before .before .before .before .if2 .left,
-      ← c .before .before .before .before .before .row-out2 .ensures,
-      ← c .before .before .before .before .before .before .uses-a .ensures,
-      c .before .before .before .before .before .before .before .if1 .left,
-      ← c .before .before .before .before .before .before .before .before .row-out .ensures,
-      ← c .before .before .before .before .before .before .before .before .before .uses-t .ensures,
-    )
+b-within : (p : tie.Else3) → Within (entryAt (start (one (two p)) .args .c .number) .uses .b) (start (one (two p)) .args .c .b)
+b-within p = simp (p .if3 .left, ← p .before .row-out3 .ensures, ← p .before .before .uses-b .ensures)
 
 pub no-row-spec : {M : Type 1} → statement M
+unfolding noRow
 no-row-spec =
     tie.close
     (tie.spec
-    uses-t-requires
-    row-out-requires
-    returns
-    uses-a-requires
-    row-out-requires-2
-    returns-2
-    uses-b-requires
-    row-out-requires-3
-    returns-3
-    no-next-row-requires
-    returns-4)
+    (λ c κs. search needs)
+    (λ c κs. search needs)
+    (λ c. simp (c .if1 .taken, ← c .before .row-out .ensures, ← c .before .before .uses-t .ensures))
+    (λ c κs. search needs)
+    (λ c κs. search needs)
+    (λ c. simp (c .if2 .taken, ← c .before .row-out2 .ensures, ← c .before .before .uses-a .ensures, t-within (c .before .before .before)))
+    (λ c κs. search needs)
+    (λ c κs. search needs)
+    (λ c. let p : tie.Else2 = c .before .before .before in simp (c .if3 .taken, ← c .before .row-out3 .ensures, ← c .before .before .uses-b .ensures, a-within p, t-within (one p)))
+    (λ c κs. search needs)
+    (λ c. let p : tie.Else3 = c .before in simp (← c .no-next-row .ensures, b-within p, a-within (two p), t-within (one (two p)))))

@@ -1,81 +1,42 @@
 -- `sheet::refusal::refusal` meets its contract. Assumes nothing.
-use borrow.Author.Tests.{le-ltb, lt-ltb}
-use Rattle.sheet.specs.Work.{earlyOf}
-use Rattle.sheet.specs.Refusals.{unknown, first}
+use mathlib.Core.Path.{_≡_, _∙_, sym}
+use mathlib.Core.Bool.{false}
 use borrow.Author.Needs.{needs}
+use borrow.Author.Tests.{le-ltb, lt-ltb}
+use Rattle.sheet.specs.Refusals.{unknown, noRow, badSource, first, early}
 use Rattle.sheet.proofs.refusal.refusal.Statement.{statement}
 use Rattle.sheet.proofs.refusal.refusal.Tie as tie
 
-returns : tie.Need-returns
-unfolding earlyOf first unknown
-returns c =
-    simp
-    (lt-ltb _ _ (c .if1 .taken))
+-- ---- the places behind the first three tests, and what each test has told
+abbrev start : tie.Else1 → tie.Start
+start p = p .before .before
 
-no-row-requires : tie.Need-no-row-requires
-no-row-requires c κs = search needs
+abbrev one : tie.Else2 → tie.Else1
+one p = p .before .before
 
-returns-2 : tie.Need-returns-2
-unfolding earlyOf first unknown
-returns-2 c =
-    simp (
-      c .if2 .taken,
-      ← c .before .no-row .ensures,
-      le-ltb _ _ (c .before .before .if1 .left),
-    )
+abbrev two : tie.Else3 → tie.Else2
+two p = p .before .before
 
-bad-source-requires : tie.Need-bad-source-requires
-bad-source-requires c κs = search needs
+known : (p : tie.Else1) → unknown (start p .args .c .number) ≡ false
+unfolding unknown
+known p = le-ltb _ _ (p .if1 .left)
 
-returns-3 : tie.Need-returns-3
-unfolding earlyOf first unknown
-returns-3 c =
-    simp (
-      c .if3 .taken,
-      ← c .before .bad-source .ensures,
-      c .before .before .if2 .left,
-      ← c .before .before .before .no-row .ensures,
-      le-ltb _ _ (c .before .before .before .before .if1 .left),
-    )
+within : (p : tie.Else2) → noRow (start (one p) .args .c) ≡ false
+within p = sym (p .before .no-row .ensures) ∙ p .if2 .left
 
-bad-value-requires : tie.Need-bad-value-requires
-bad-value-requires c κs = search needs
-
-returns-4 : tie.Need-returns-4
-unfolding earlyOf first unknown
-returns-4 c =
-    simp (
-      c .if4 .taken,
-      ← c .before .bad-value .ensures,
-      c .before .before .if3 .left,
-      ← c .before .before .before .bad-source .ensures,
-      c .before .before .before .before .if2 .left,
-      ← c .before .before .before .before .before .no-row .ensures,
-      le-ltb _ _ (c .before .before .before .before .before .before .if1 .left),
-    )
-
-returns-5 : tie.Need-returns-5
-unfolding earlyOf first unknown
-returns-5 c =
-    simp (
-      c .if4 .left,
-      ← c .before .bad-value .ensures,
-      c .before .before .if3 .left,
-      ← c .before .before .before .bad-source .ensures,
-      c .before .before .before .before .if2 .left,
-      ← c .before .before .before .before .before .no-row .ensures,
-      le-ltb _ _ (c .before .before .before .before .before .before .if1 .left),
-    )
+fit : (p : tie.Else3) → badSource (start (one (two p)) .args .c .number) (start (one (two p)) .args .kind-a) (start (one (two p)) .args .kind-b) ≡ false
+fit p = sym (p .before .bad-source .ensures) ∙ p .if3 .left
 
 pub refusal-spec : {M : Type 1} → statement M
+unfolding first early unknown
 refusal-spec =
     tie.close
     (tie.spec
-    returns
-    no-row-requires
-    returns-2
-    bad-source-requires
-    returns-3
-    bad-value-requires
-    returns-4
-    returns-5)
+    (λ c. simp (lt-ltb _ _ (c .if1 .taken)))
+    (λ c κs. search needs)
+    (λ c. simp (c .if2 .taken, ← c .before .no-row .ensures, known (c .before .before)))
+    (λ c κs. search needs)
+    (λ c. let p : tie.Else2 = c .before .before in simp (c .if3 .taken, ← c .before .bad-source .ensures, within p, known (one p)))
+    (λ c κs. search needs)
+    (λ c. let p : tie.Else3 = c .before .before in simp (c .if4 .taken, ← c .before .bad-value .ensures, fit p, within (two p), known (one (two p))))
+    (λ c. let p : tie.Else3 = c .before .before in simp (c .if4 .left, ← c .before .bad-value .ensures, fit p, within (two p), known (one (two p)))))

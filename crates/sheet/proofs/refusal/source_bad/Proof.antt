@@ -1,29 +1,22 @@
 -- `sheet::refusal::source_bad` meets its contract. Assumes nothing.
+use mathlib.Core.Path.{_≡_}
 use borrow.Author.Needs.{needs}
+use Rattle.sheet.specs.Commands.{Entry, table, entryAt}
+use Rattle.sheet.specs.CommandSets.{inSet}
+use Rattle.sheet.proofs.CommandSetLaws.{column, asksDirections, kind-refused}
 use Rattle.sheet.proofs.refusal.source_bad.Statement.{statement}
 use Rattle.sheet.proofs.refusal.source_bad.Tie as tie
 
-takes-directions-requires : tie.Need-takes-directions-requires
-takes-directions-requires c κs = search needs
-
-returns : tie.Need-returns
-returns c =
-    simp (
-      c .if2 .taken,
-      ← c .before .takes-directions .ensures,
-      c .before .before .if1 .taken,
-    )
-
-returns-2 : tie.Need-returns-2
-returns-2 c =
-    simp (
-      c .if2 .left,
-      ← c .before .takes-directions .ensures,
-      c .before .before .if1 .taken,
-    )
-
-returns-3 : tie.Need-returns-3
-returns-3 c = search needs
+-- what the set has told
+told : (p : tie.After-is-in) → p .is-in .result ≡ asksDirections (entryAt (p .before .before .args .n) .takes)
+unfolding inSet entryAt table
+told p = column _ (p .before .before .args .n) (λ (e : Entry). asksDirections (e .takes)) (p .is-in .ensures) tt
 
 pub source-bad-spec : {M : Type 1} → statement M
-source-bad-spec = tie.close (tie.spec takes-directions-requires returns returns-2 returns-3)
+source-bad-spec =
+    tie.close
+    (tie.spec
+    (λ c κs. search needs)
+    (λ c. simp (c .before .before .if1 .taken, kind-refused, ← told (c .before), c .if2 .taken))
+    (λ c. simp (c .before .before .if1 .taken, kind-refused, ← told (c .before), c .if2 .left))
+    (λ c. search needs))

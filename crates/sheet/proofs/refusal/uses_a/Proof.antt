@@ -1,20 +1,11 @@
 -- `sheet::refusal::uses_a` meets its contract. Assumes nothing.
-use borrow.Author.Tests.{le-leb, lt-leb}
-use Rattle.sheet.specs.Fields.{usesA}
+use borrow.Author.Needs.{needs}
+use Rattle.sheet.specs.Commands.{Entry, table, entryAt}
+use Rattle.sheet.specs.CommandSets.{inSet}
+use Rattle.sheet.proofs.CommandSetLaws.{column}
 use Rattle.sheet.proofs.refusal.uses_a.Statement.{statement}
 use Rattle.sheet.proofs.refusal.uses_a.Tie as tie
 
-returns : tie.Need-returns
-unfolding usesA
-returns c =
-    simp
-    (le-leb _ _ (c .if1 .taken))
-
-returns-2 : tie.Need-returns-2
-unfolding usesA
-returns-2 c =
-    simp
-    (lt-leb _ _ (c .if1 .left))
-
 pub uses-a-spec : {M : Type 1} → statement M
-uses-a-spec = tie.close (tie.spec returns returns-2)
+unfolding inSet entryAt table
+uses-a-spec = tie.close (tie.spec (λ c κs. search needs) (λ c. column _ (c .before .args .n) (λ (e : Entry). e .uses .a) (c .is-in .ensures) tt))

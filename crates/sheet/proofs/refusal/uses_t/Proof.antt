@@ -1,12 +1,11 @@
 -- `sheet::refusal::uses_t` meets its contract. Assumes nothing.
-use mathlib.Core.Path.{refl}
-use Rattle.sheet.specs.Fields.{usesT}
+use borrow.Author.Needs.{needs}
+use Rattle.sheet.specs.Commands.{Entry, table, entryAt}
+use Rattle.sheet.specs.CommandSets.{inSet}
+use Rattle.sheet.proofs.CommandSetLaws.{column}
 use Rattle.sheet.proofs.refusal.uses_t.Statement.{statement}
 use Rattle.sheet.proofs.refusal.uses_t.Tie as tie
 
-returns : tie.Need-returns
-unfolding usesT
-returns c = refl
-
 pub uses-t-spec : {M : Type 1} → statement M
-uses-t-spec = tie.close (tie.spec returns)
+unfolding inSet entryAt table
+uses-t-spec = tie.close (tie.spec (λ c κs. search needs) (λ c. column _ (c .before .args .n) (λ (e : Entry). e .uses .t) (c .is-in .ensures) tt))

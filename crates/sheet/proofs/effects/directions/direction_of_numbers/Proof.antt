@@ -4,9 +4,6 @@ use borrow.Author.Needs.{needs}
 use Rattle.sheet.proofs.effects.directions.direction_of_numbers.Statement.{statement}
 use Rattle.sheet.proofs.effects.directions.direction_of_numbers.Tie as tie
 
-length-squared-requires : tie.Need-length-squared-requires
-length-squared-requires c κs = search needs
-
 returns : tie.Need-returns
 unfolding directionOf
 returns c =
@@ -14,12 +11,6 @@ returns c =
       c .if1 .taken,
       ← c .before .length-squared .ensures,
     )
-
-is-finite-requires : tie.Need-is-finite-requires
-is-finite-requires c κs = search needs
-
-try-normalize-requires : tie.Need-try-normalize-requires
-try-normalize-requires c κs = search needs
 
 returns-2 : tie.Need-returns-2
 unfolding directionOf
@@ -45,10 +36,4 @@ returns-3 c =
 pub direction-of-numbers-spec : {M : Type 1} → statement M
 direction-of-numbers-spec =
     tie.close
-    (tie.spec
-    length-squared-requires
-    returns
-    is-finite-requires
-    try-normalize-requires
-    returns-2
-    returns-3)
+    (tie.spec (λ c κs. search needs) returns (λ c κs. search needs) (λ c κs. search needs) returns-2 returns-3)

@@ -4,12 +4,9 @@ use borrow.Author.Needs.{needs}
 use Rattle.sheet.proofs.effects.directions.refract_k.Statement.{statement}
 use Rattle.sheet.proofs.effects.directions.refract_k.Tie as tie
 
-dot-requires : tie.Need-dot-requires
-dot-requires c κs = search needs
-
 returns : tie.Need-returns
 unfolding refractK
 returns c = simp (← c .dot .ensures)
 
 pub refract-k-spec : {M : Type 1} → statement M
-refract-k-spec = tie.close (tie.spec dot-requires returns)
+refract-k-spec = tie.close (tie.spec (λ c κs. search needs) returns)

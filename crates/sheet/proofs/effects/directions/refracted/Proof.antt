@@ -1,30 +1,16 @@
 -- `sheet::effects::directions::refracted` meets its contract. Assumes nothing.
 use Rattle.sheet.specs.Answers.{answerOf}
-use Rattle.sheet.specs.Outcomes.{refractDone, unless}
-use Rattle.sheet.specs.Work.{effectBy}
+use Rattle.sheet.specs.Effects.{effectBy, unless}
 use borrow.Author.Needs.{needs}
 use Rattle.sheet.proofs.effects.directions.refracted.Statement.{statement}
 use Rattle.sheet.proofs.effects.directions.refracted.Tie as tie
 
-refract-k-requires : tie.Need-refract-k-requires
-refract-k-requires c κs = search needs
-
-refract-requires : tie.Need-refract-requires
-refract-requires c κs = search needs
-
-direction-requires : tie.Need-direction-requires
-direction-requires c κs = search needs
-
 returns : tie.Need-returns
-unfolding effectBy refractDone unless answerOf
-returns c =
-    simp (
-      c .if1 .taken,
-      ← c .before .refract-k .ensures,
-    )
+unfolding effectBy unless answerOf
+returns c = simp (c .if1 .taken, ← c .before .refract-k .ensures)
 
 returns-2 : tie.Need-returns-2
-unfolding effectBy refractDone unless answerOf
+unfolding unless
 returns-2 c =
     simp (
       ← c .direction .ensures,
@@ -35,4 +21,4 @@ returns-2 c =
 
 pub refracted-spec : {M : Type 1} → statement M
 refracted-spec =
-    tie.close (tie.spec refract-k-requires refract-requires direction-requires returns returns-2)
+    tie.close (tie.spec (λ c κs. search needs) (λ c κs. search needs) (λ c κs. search needs) returns returns-2)

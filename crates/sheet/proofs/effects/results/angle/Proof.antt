@@ -1,27 +1,16 @@
 -- `sheet::effects::results::angle` meets its contract. Assumes nothing.
 use Rattle.sheet.specs.Answers.{answerOf}
-use Rattle.sheet.specs.Outcomes.{angleDone, unless}
-use Rattle.sheet.specs.Work.{effectBy}
+use Rattle.sheet.specs.Effects.{effectBy, unless}
 use borrow.Author.Needs.{needs}
 use Rattle.sheet.proofs.effects.results.angle.Statement.{statement}
 use Rattle.sheet.proofs.effects.results.angle.Tie as tie
 
-length-squared-requires : tie.Need-length-squared-requires
-length-squared-requires c κs = search needs
-
 returns : tie.Need-returns
-unfolding effectBy angleDone unless answerOf
-returns c =
-    simp (
-      c .if1 .taken,
-      ← c .before .length-squared .ensures,
-    )
-
-length-squared-requires-2 : tie.Need-length-squared-requires-2
-length-squared-requires-2 c κs = search needs
+unfolding effectBy unless answerOf
+returns c = simp (c .if1 .taken, ← c .before .length-squared .ensures)
 
 returns-2 : tie.Need-returns-2
-unfolding effectBy angleDone unless answerOf
+unfolding effectBy unless answerOf
 returns-2 c =
     simp (
       c .if2 .taken,
@@ -30,14 +19,8 @@ returns-2 c =
       ← c .before .before .before .length-squared .ensures,
     )
 
-angle-between-requires : tie.Need-angle-between-requires
-angle-between-requires c κs = search needs
-
-number-requires : tie.Need-number-requires
-number-requires c κs = search needs
-
 returns-3 : tie.Need-returns-3
-unfolding effectBy angleDone unless answerOf
+unfolding unless
 returns-3 c =
     simp (
       ← c .number .ensures,
@@ -52,10 +35,10 @@ pub angle-spec : {M : Type 1} → statement M
 angle-spec =
     tie.close
     (tie.spec
-    length-squared-requires
+    (λ c κs. search needs)
     returns
-    length-squared-requires-2
+    (λ c κs. search needs)
     returns-2
-    angle-between-requires
-    number-requires
+    (λ c κs. search needs)
+    (λ c κs. search needs)
     returns-3)

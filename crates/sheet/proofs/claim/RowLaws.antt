@@ -11,7 +11,9 @@ use Rattle.vector.specs.declared.vec3.Vec3.{Vec3}
 use Rattle.vector.specs.Vectors.{ZERO}
 use Rattle.vector.specs.ExactVectors.{F32Vec, FiniteVec, Direction}
 use Rattle.vector.proofs.VectorFits.{zero-vector}
-use Rattle.sheet.specs.Rows.{ModelRow, Model, empty, point, direction, fresh, rowAt, written}
+use Rattle.sheet.specs.Codes.{rowCount}
+use Rattle.sheet.specs.Rows.{ModelRow, State, empty, point, direction, fresh, rowAt, written}
+use Rattle.sheet.specs.Model.{withRows}
 use Rattle.sheet.specs.Claim.{SoundRow, Sound}
 
 -- ---- the rows that commands write
@@ -29,15 +31,15 @@ pub direction-row : (v : Vec3) → Direction v → SoundRow (direction v)
 direction-row v d = record { known-kind = lit≤ tt; zeros = λ e. absurd (omega (arith, e)); values = d .values; numbers-finite = d .numbers; unit = λ _. d }
 
 -- ---- written and read
-pub length-written : (m : Model) (i : ℕ) (r : ModelRow) → length (written m i r) ≡ length m
+pub length-written : (m : List ModelRow) (i : ℕ) (r : ModelRow) → length (written m i r) ≡ length m
 unfolding written
 length-written m i r = length-set m i r
 
-pub read-same : (m : Model) (i : ℕ) (r : ModelRow) → i < length m → rowAt (written m i r) i ≡ r
+pub read-same : (m : List ModelRow) (i : ℕ) (r : ModelRow) → i < length m → rowAt (written m i r) i ≡ r
 unfolding rowAt written
 read-same m i r h = getD-set-same m i r empty h
 
-pub read-other : (m : Model) (i j : ℕ) (r : ModelRow) → (j ≡ i → ⊥) → rowAt (written m i r) j ≡ rowAt m j
+pub read-other : (m : List ModelRow) (i j : ℕ) (r : ModelRow) → (j ≡ i → ⊥) → rowAt (written m i r) j ≡ rowAt m j
 unfolding rowAt written
 read-other m i j r h = getD-set-other m i j r empty h
 
@@ -57,8 +59,8 @@ all-replicate (suc n) (suc i) a = all-replicate n i a
 -- ---- sheets
 pub fresh-sound : Sound fresh
 unfolding fresh rowAt
-fresh-sound = record { count = length-replicate 64 empty; each-row = λ i. subst SoundRow (sym (all-replicate 64 i empty)) empty-row }
+fresh-sound = record { count = length-replicate rowCount empty; each-row = λ i. subst SoundRow (sym (all-replicate rowCount i empty)) empty-row }
 
-pub written-sound : (m : Model) (i : ℕ) (r : ModelRow) → Sound m → SoundRow r → Sound (written m i r)
+pub written-sound : (s : State) (i : ℕ) (r : ModelRow) → Sound s → SoundRow r → Sound (withRows s (written (s .rows) i r))
 unfolding rowAt written
-written-sound m i r h p = record { count = length-set m i r ∙ h .count; each-row = all-set SoundRow m i r empty (h .each-row) p }
+written-sound s i r h p = record { count = length-set (s .rows) i r ∙ h .count; each-row = all-set SoundRow (s .rows) i r empty (h .each-row) p }
