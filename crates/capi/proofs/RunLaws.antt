@@ -6,7 +6,7 @@ use borrow.Author.Tests.{eq-eqb, ne-eqb}
 use native.Mathlib.Omega.{arith}
 use lib.ListN.{drop}
 use Rattle.sheet.specs.declared.run.Ran.{Ran}
-use Rattle.sheet.specs.Answers.{ModelAnswer}
+use Rattle.commands.specs.Answers.{ModelAnswer}
 use Rattle.sheet.specs.Run.{count, allNumbersOf, listRefusal, RunAll}
 use Rattle.capi.specs.Lists.{answered}
 

@@ -4,7 +4,7 @@ use mathlib.Core.Bool.{cond}
 use mathlib.Core.List.{List, _++_}
 use lib.Dec.{eqb}
 use lib.ListN.{drop}
-use Rattle.sheet.specs.Model.{runOf}
+use Rattle.commands.specs.Model.{runOf}
 use Rattle.sheet.specs.Run.{commandsOf, count, allNumbersOf, listRefusal}
 
 -- the lent numbers afterwards: the answers of the list, six numbers each, and what was there past them; a refused list leaves them as they were

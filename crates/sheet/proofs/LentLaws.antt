@@ -6,14 +6,14 @@ use mathlib.Core.List.{List}
 use native.Mathlib.Omega.{arith}
 use borrow.Author.Tests.{lt-ltb, le-ltb}
 use lib.ListN.{length, drop}
-use Rattle.sheet.specs.declared.command.Command.{Command}
-use Rattle.sheet.specs.Codes.{lentTooShort}
-use Rattle.sheet.specs.Rows.{State, rowAt, written}
-use Rattle.sheet.specs.Answers.{refused}
-use Rattle.sheet.specs.Effects.{ModelEffect, Puts, PutsTwo, Tells}
-use Rattle.sheet.specs.Model.{Stepped, stepped, applied, effectOn, stepOf, runFrom}
+use Rattle.commands.specs.declared.command.Command.{Command}
+use Rattle.commands.specs.Codes.{lentTooShort}
+use Rattle.commands.specs.Rows.{State, rowAt, written}
+use Rattle.commands.specs.Answers.{refused}
+use Rattle.commands.specs.Effects.{ModelEffect, Puts, PutsTwo, Tells}
+use Rattle.commands.specs.Model.{Stepped, stepped, applied, effectOn, stepOf, runFrom}
 use Rattle.sheet.specs.Words.{stateWords, modelOf, putRow, wordsAfter, lentStep, lentRun}
-use Rattle.sheet.proofs.CommandLaws.{InRange, FitEffect, target-in-range, effect-fits}
+use Rattle.commands.proofs.CommandLaws.{InRange, FitEffect, target-in-range, effect-fits}
 use Rattle.sheet.proofs.RunByLaws.{steppedAs, ranAs, runBy-keeps, runBy-related}
 use Rattle.sheet.proofs.WordLaws.{row-fits, row-written, length-put, behind-kept}
 

@@ -7,20 +7,20 @@ use borrow.Author.Tests.{lt-ltb, le-ltb}
 use lib.ListN.{length}
 use lib.Seq.{sets}
 use Rattle.vector.specs.declared.vec3.Vec3.{Vec3}
-use Rattle.sheet.specs.declared.rows.Row.{Row}
-use Rattle.sheet.specs.declared.command.Command.{Command}
-use Rattle.sheet.specs.declared.command.Answer.{Answer}
-use Rattle.sheet.specs.declared.command.Answer.the-variants.{Shown}
-use Rattle.sheet.specs.declared.effects.Effect.{Effect}
-use Rattle.sheet.specs.declared.effects.Effect.the-variants.{Tell, Put, PutTwo}
-use Rattle.sheet.specs.Codes.{rowCount, directionKind, lentTooShort}
-use Rattle.sheet.specs.Rows.{ModelRow, direction, rowOf, rowAt}
-use Rattle.sheet.specs.Answers.{answerOf, numbersOf}
-use Rattle.sheet.specs.Effects.{commandEffect, effectBy}
-use Rattle.sheet.specs.Model.{Stepped, stepped, applied, effectOn}
+use Rattle.commands.specs.declared.row.Row.{Row}
+use Rattle.commands.specs.declared.command.Command.{Command}
+use Rattle.commands.specs.declared.command.Answer.{Answer}
+use Rattle.commands.specs.declared.command.Answer.the-variants.{Shown}
+use Rattle.commands.specs.declared.effects.Effect.{Effect}
+use Rattle.commands.specs.declared.effects.Effect.the-variants.{Tell, Put, PutTwo}
+use Rattle.commands.specs.Codes.{rowCount, directionKind, lentTooShort}
+use Rattle.commands.specs.Rows.{ModelRow, direction, rowOf, rowAt}
+use Rattle.commands.specs.Answers.{answerOf, numbersOf}
+use Rattle.commands.specs.Effects.{commandEffect, effectBy}
+use Rattle.commands.specs.Model.{Stepped, stepped, applied, effectOn}
 use Rattle.sheet.specs.Words.{stateWords, modelOf, putRow, wordsAfter, lentStep}
 use Rattle.sheet.specs.Run.{steppedAt, lentStepAt}
-use Rattle.sheet.proofs.CommandLaws.{InRange, target-in-range, effect-rows}
+use Rattle.commands.proofs.CommandLaws.{InRange, target-in-range, effect-rows}
 use Rattle.sheet.proofs.LentLaws.{lent-by}
 
 -- the words are enough, and the program's effect is the model's

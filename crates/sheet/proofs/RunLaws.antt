@@ -9,15 +9,16 @@ use lib.Dec.{eqb, ltb}
 use borrow.Author.Tests.{ltb-false}
 use lib.ListN.{length, drop, replicate, length-append, length-drop}
 use lib.Seq.{sets, sets-eq, take-append-seam, drop-append-add, drop-drop}
-use Rattle.sheet.specs.declared.command.Command.{Command}
-use Rattle.sheet.specs.Codes.{illFormed, lentTooShort}
-use Rattle.sheet.specs.Rows.{State, fresh}
-use Rattle.sheet.specs.Answers.{ModelAnswer, numbersOf}
-use Rattle.sheet.specs.Model.{Stepped, Ran, runBy, runFrom}
-use Rattle.sheet.specs.Claim.{Claim}
+use Rattle.commands.specs.declared.command.Command.{Command}
+use Rattle.commands.specs.Codes.{illFormed, lentTooShort}
+use Rattle.commands.specs.Rows.{State, fresh}
+use Rattle.commands.specs.Answers.{ModelAnswer, numbersOf}
+use Rattle.commands.specs.Model.{Stepped, Ran, runBy, runFrom}
+use Rattle.commands.specs.Claim.{Claim}
 use Rattle.sheet.specs.Words.{stateWords, modelOf, lentStep, lentRun}
-use Rattle.sheet.specs.Run.{commandOf, commandsOf, count, listOf, allNumbersOf, SteppedAt, steppedAt, lentStepAt, refusalOfLengths, listRefusal, Runs, RunsAll}
-use Rattle.sheet.proofs.ClaimLaws.{model-claim}
+use Rattle.commands.specs.Fields.{commandOf}
+use Rattle.sheet.specs.Run.{commandsOf, count, listOf, allNumbersOf, SteppedAt, steppedAt, lentStepAt, refusalOfLengths, listRefusal, Runs, RunsAll}
+use Rattle.commands.proofs.ClaimLaws.{model-claim}
 use Rattle.sheet.proofs.WordLaws.{zeros-fresh}
 use Rattle.sheet.proofs.RunByLaws.{run-snoc-state, run-snoc-answers}
 use Rattle.sheet.proofs.LentLaws.{run-lent, length-run}

@@ -10,8 +10,8 @@ use lib.Ieee.Bits.{ofBits-toBits, ofBits-fits}
 use Rattle.vector.specs.Vectors.{vec}
 use Rattle.vector.specs.ExactVectors.{F32Vec}
 use Rattle.vector.proofs.VectorFits.{zero-vector}
-use Rattle.sheet.specs.Codes.{rowCount}
-use Rattle.sheet.specs.Rows.{ModelRow, empty, rowAt, written, fresh}
+use Rattle.commands.specs.Codes.{rowCount}
+use Rattle.commands.specs.Rows.{ModelRow, empty, rowAt, written, fresh}
 use Rattle.sheet.specs.Words.{rowWidth, stateWords, wordRow, rowsFrom, modelOf, rowWords, putRow}
 
 -- ---- lists

@@ -1,15 +1,3 @@
 -- The definitions of crate sheet, file by file.
-pub mod Codes
-pub mod Rows
-pub mod Fields
-pub mod Results
-pub mod Commands
-pub mod Refusals
-pub mod Answers
-pub mod Effects
-pub mod Model
 pub mod Words
-pub mod CommandSets
-pub mod Claim
 pub mod Run
-pub mod Corners

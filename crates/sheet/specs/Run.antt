@@ -4,19 +4,16 @@ use mathlib.Core.Path.{_≡_}
 use mathlib.Core.Bool.{cond, _||_}
 use mathlib.Core.List.{List, [], _∷_, _++_}
 use lib.Dec.{eqb, ltb}
-use lib.ListN.{length, getD, drop}
+use lib.ListN.{length, drop}
 use lib.Seq.{sets}
-use Rattle.sheet.specs.declared.command.Command.{Command}
-use Rattle.sheet.specs.Codes.{illFormed, lentTooShort}
-use Rattle.sheet.specs.Answers.{ModelAnswer, numbersOf}
-use Rattle.sheet.specs.Rows.{fresh}
-use Rattle.sheet.specs.Model.{runFrom}
-use Rattle.sheet.specs.Claim.{Claim}
+use Rattle.commands.specs.declared.command.Command.{Command}
+use Rattle.commands.specs.Codes.{illFormed, lentTooShort}
+use Rattle.commands.specs.Fields.{commandOf}
+use Rattle.commands.specs.Answers.{ModelAnswer, numbersOf}
+use Rattle.commands.specs.Rows.{fresh}
+use Rattle.commands.specs.Model.{runFrom}
+use Rattle.commands.specs.Claim.{Claim}
 use Rattle.sheet.specs.Words.{stateWords, modelOf, lentStep, lentRun}
-
--- the command that the first seven numbers give
-unfoldable pub commandOf : List ℕ → Command
-commandOf l = record { number = getD l 0 0; t = getD l 1 0; a = getD l 2 0; b = getD l 3 0; u = getD l 4 0; v = getD l 5 0; w = getD l 6 0 }
 
 -- one command on lent words, its answer's six numbers put to the places from `at` on, and its refusal; nothing is run where these places are too few
 pub record SteppedAt : Type 0 where

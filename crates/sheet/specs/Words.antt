@@ -7,12 +7,12 @@ use lib.ListN.{length, getD, drop}
 use lib.Seq.{sets}
 use lib.Ieee.{binary32, ofBits}
 use Rattle.vector.specs.Vectors.{vec}
-use Rattle.sheet.specs.declared.command.Command.{Command}
-use Rattle.sheet.specs.Codes.{rowCount, lentTooShort}
-use Rattle.sheet.specs.Rows.{ModelRow, State}
-use Rattle.sheet.specs.Answers.{ModelAnswer, bits, refused}
-use Rattle.sheet.specs.Effects.{ModelEffect, Puts, PutsTwo, Tells}
-use Rattle.sheet.specs.Model.{Stepped, stepped, applied, effectOn, runBy, Ran}
+use Rattle.commands.specs.declared.command.Command.{Command}
+use Rattle.commands.specs.Codes.{rowCount, lentTooShort}
+use Rattle.commands.specs.Rows.{ModelRow, State}
+use Rattle.commands.specs.Answers.{ModelAnswer, bits, refused}
+use Rattle.commands.specs.Effects.{ModelEffect, Puts, PutsTwo, Tells}
+use Rattle.commands.specs.Model.{Stepped, stepped, applied, effectOn, runBy, Ran}
 
 -- the words of a row, and of a sheet
 abbrev pub rowWidth : ℕ

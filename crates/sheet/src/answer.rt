@@ -4,10 +4,10 @@ ghost use mathlib.Core.List.{[], _∷_};
 ghost use Prim.Native.Nat.{_+_, _≤_};
 ghost use lib.ListN.{length};
 ghost use lib.Seq.{sets};
-ghost use Rattle.sheet.specs.Answers.{answerOf, numbersOf};
-use crate::codes::NUMBER;
-use crate::codes::WHOLE;
-use crate::command::Answer;
+ghost use Rattle.commands.specs.Answers.{answerOf, numbersOf};
+use commands::codes::NUMBER;
+use commands::codes::WHOLE;
+use commands::command::Answer;
 use scalar::bits::to_bits;
 
 fn put_six(out: &mut [u32], at: usize, refusal: u32, row: u32, kind: u32, x: u32, y: u32, z: u32)

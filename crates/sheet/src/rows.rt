@@ -4,8 +4,9 @@ ghost use mathlib.Core.List.{[], _∷_};
 ghost use Prim.Native.Nat.{_+_, _≤_, _<_};
 ghost use lib.ListN.{length};
 ghost use lib.Seq.{sets};
-ghost use Rattle.sheet.specs.Rows.{rowOf, rowAt};
+ghost use Rattle.commands.specs.Rows.{rowOf, rowAt};
 ghost use Rattle.sheet.specs.Words.{stateWords, modelOf, putRow};
+use commands::row::Row;
 use scalar::bits::from_bits;
 use scalar::bits::to_bits;
 use vector::vec3::Vec3;
@@ -14,11 +15,6 @@ use vector::vec3::Vec3;
 const ROW_WIDTH: usize = 5;
 
 pub const STATE_WORDS: usize = 320;
-
-pub struct Row {
-    pub kind: u32,
-    pub v: Vec3,
-}
 
 // Row i.
 pub(crate) fn row_at(state: &[u32], i: usize) -> Row

@@ -1,10 +1,10 @@
 // A whole list of commands: seven numbers for each command, six for each answer.
 ghost use mathlib.Core.Path.{_≡_};
 ghost use Rattle.sheet.specs.Run.{refusalOfLengths, Runs, RunsAll};
-use crate::codes::ILL_FORMED;
-use crate::codes::LENT_TOO_SHORT;
 use crate::rows::STATE_WORDS;
 use crate::step::step_at;
+use commands::codes::ILL_FORMED;
+use commands::codes::LENT_TOO_SHORT;
 
 // 9 where the sheet or the numbers lent for the answers are too short, 1 where the list ends within a command, 0 where it can be run.
 fn list_refusal(words: usize, commands: usize, lent: usize) -> u32

@@ -1,38 +1,23 @@
 // One command, in place: its refusal or its effect, and the rows that it writes. No other function writes rows.
 ghost use mathlib.Core.Path.{_≡_};
 ghost use lib.ListN.{drop};
-ghost use Rattle.sheet.specs.Rows.{rowOf};
-ghost use Rattle.sheet.specs.Answers.{answerOf};
-ghost use Rattle.sheet.specs.Effects.{effectBy, commandEffect};
-ghost use Rattle.sheet.specs.Model.{stepped};
+ghost use Rattle.commands.specs.Answers.{answerOf};
+ghost use Rattle.commands.specs.Model.{stepped};
 ghost use Rattle.sheet.specs.Words.{lentStep};
-ghost use Rattle.sheet.specs.Run.{commandOf, steppedAt, lentStepAt};
+ghost use Rattle.commands.specs.Fields.{commandOf};
+ghost use Rattle.sheet.specs.Run.{steppedAt, lentStepAt};
 use crate::answer::put_answer;
 use crate::answer::refusal_of;
-use crate::codes::DIRECTION;
-use crate::codes::LENT_TOO_SHORT;
-use crate::command::Answer;
-use crate::command::Command;
-use crate::command::command_at;
-use crate::effects::Effect;
-use crate::effects::late_effect;
-use crate::refusal::refusal;
-use crate::rows::Row;
 use crate::rows::STATE_WORDS;
 use crate::rows::put_row;
 use crate::rows::row_at;
-
-// What a command comes to, from its two source rows: it sees no sheet.
-pub(crate) fn effect_of(c: Command, a: Row, b: Row) -> Effect
-    ensures { λ r. ⌜ effectBy r ≡ commandEffect c (rowOf a) (rowOf b) ⌝ }
-{
-    let k = refusal(c, a.kind, b.kind);
-    if k == 0 {
-        late_effect(c, a, b)
-    } else {
-        Effect::Tell(Answer::Refused(k))
-    }
-}
+use commands::codes::DIRECTION;
+use commands::codes::LENT_TOO_SHORT;
+use commands::command::Answer;
+use commands::command::Command;
+use commands::command::command_at;
+use commands::effects::Effect;
+use commands::effects::effect_of;
 
 // The command on the sheet that lies in the words. A row above 63 is refused where it is used, and not read where it is not: any row may stand in its place.
 pub fn step(state: &mut [u32], c: Command) -> Answer

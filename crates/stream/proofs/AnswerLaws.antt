@@ -8,8 +8,8 @@ use borrow.Author.Tests.{le-ltb, lt-ltb, ltb-false, eq-eqb, ne-eqb}
 use lib.Dec.{ltb}
 use lib.ListN.{length, take, drop, length-take, drop-of-length-le}
 use lib.Seq.{drop-drop}
-use Rattle.sheet.specs.Rows.{Model}
-use Rattle.sheet.specs.Answers.{ModelAnswer, refused}
+use Rattle.commands.specs.Rows.{Model}
+use Rattle.commands.specs.Answers.{ModelAnswer, refused}
 use Rattle.lines.specs.AnswerLine.{put}
 use Rattle.lines.proofs.LineMeaningLaws.{answer-length}
 use Rattle.stream.specs.Responses.{answerText}

@@ -9,10 +9,10 @@ use borrow.Author.Tests.{lt-ltb, eq-eqb, ne-eqb, leb-true, leb-false}
 use lib.Dec.{leb}
 use lib.ListN.{length, getD, take, drop, set, length-append, length-drop, length-take, take-append-drop}
 use lib.Seq.{take-all, take-suc-set, length-take-le, take-at, take-add, drop-append-add, drop-drop, drop-cons}
-use Rattle.sheet.specs.declared.command.Command.{Command}
-use Rattle.sheet.specs.Rows.{Model}
-use Rattle.sheet.specs.Answers.{ModelAnswer, refused}
-use Rattle.sheet.specs.Model.{Stepped, stepOf}
+use Rattle.commands.specs.declared.command.Command.{Command}
+use Rattle.commands.specs.Rows.{Model}
+use Rattle.commands.specs.Answers.{ModelAnswer, refused}
+use Rattle.commands.specs.Model.{Stepped, stepOf}
 use Rattle.stream.specs.Responses.{response, answerText}
 use Rattle.stream.proofs.PieceLaws.{feed-append-held, feed-append-text}
 use Rattle.stream.specs.Stream.{Held, held, pushed, byteFed, feedOf, Feeds}

@@ -8,9 +8,9 @@ use native.Mathlib.Omega.{arith}
 use borrow.Author.Tests.{lt-ltb, le-ltb, ne-eqb}
 use lib.ListN.{length, getD, take, drop, length-append, length-drop, drop-of-length-le}
 use lib.Seq.{take-suc, getD-drop, length-take-le, drop-cons}
-use Rattle.sheet.specs.Rows.{Model}
-use Rattle.sheet.specs.Model.{stepOf}
-use Rattle.sheet.specs.Run.{commandOf}
+use Rattle.commands.specs.Rows.{Model}
+use Rattle.commands.specs.Model.{stepOf}
+use Rattle.commands.specs.Fields.{commandOf}
 use Rattle.lines.specs.CommandLine.{numbers, taken, isRead, put}
 use Rattle.lines.specs.LineMeaning.{NoLineFeed}
 use Rattle.lines.proofs.LineMeaningLaws.{well-formed-whole}

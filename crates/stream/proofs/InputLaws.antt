@@ -5,11 +5,11 @@ use mathlib.Core.Path.{_≡_, refl, sym, subst}
 use mathlib.Core.List.{List, [], _∷_, _++_, append-assoc, append-nil}
 use lib.Dec.{eqb·suc-zero}
 use lib.ListN.{length, take}
-use Rattle.sheet.specs.Rows.{Model, fresh}
-use Rattle.sheet.specs.Answers.{ModelAnswer, refused}
-use Rattle.sheet.specs.Model.{runOf}
-use Rattle.sheet.specs.Claim.{Claim}
-use Rattle.sheet.proofs.ClaimLaws.{model-claim}
+use Rattle.commands.specs.Rows.{Model, fresh}
+use Rattle.commands.specs.Answers.{ModelAnswer, refused}
+use Rattle.commands.specs.Model.{runOf}
+use Rattle.commands.specs.Claim.{Claim}
+use Rattle.commands.proofs.ClaimLaws.{model-claim}
 use Rattle.stream.specs.Responses.{answerText}
 use Rattle.stream.specs.Stream.{Held, endOf}
 use Rattle.stream.specs.Inputs.{cut, commandsIn, between, texts, fed, lastAnswer, InputsAnswered}

@@ -5,10 +5,10 @@ use mathlib.Core.Path.{_≡_, refl, sym, _∙_}
 use mathlib.Core.List.{List, [], _∷_, _++_, append-assoc, append-nil}
 use mathlib.Core.Option.{Option, none, some}
 use lib.Dec.{eqb}
-use Rattle.sheet.specs.declared.command.Command.{Command}
-use Rattle.sheet.specs.Rows.{Model}
-use Rattle.sheet.specs.Answers.{ModelAnswer}
-use Rattle.sheet.specs.Model.{runFrom}
+use Rattle.commands.specs.declared.command.Command.{Command}
+use Rattle.commands.specs.Rows.{Model}
+use Rattle.commands.specs.Answers.{ModelAnswer}
+use Rattle.commands.specs.Model.{runFrom}
 use Rattle.lines.specs.CommandLine.{numbers}
 use Rattle.stream.specs.Responses.{response, lineResponse, answerText}
 use Rattle.stream.specs.Stream.{held, Fed, byteFed, feedOf}

@@ -5,13 +5,13 @@ use mathlib.Core.List.{List, _++_}
 use mathlib.Core.Option.{none, some}
 use borrow.Author.Tests.{lt-ltb, le-ltb}
 use lib.ListN.{length, drop}
-use Rattle.sheet.specs.declared.rows.Sheet.{Sheet}
+use Rattle.commands.specs.declared.rows.Sheet.{Sheet}
 use Rattle.sheet.specs.declared.step.Outcome.{Outcome}
-use Rattle.sheet.specs.Rows.{modelOf}
-use Rattle.sheet.specs.Answers.{refused, answerOf}
-use Rattle.sheet.specs.Model.{Stepped, stepOf}
+use Rattle.commands.specs.Rows.{modelOf}
+use Rattle.commands.specs.Answers.{refused, answerOf}
+use Rattle.commands.specs.Model.{Stepped, stepOf}
 use Rattle.sheet.specs.Step.{steppedOf}
-use Rattle.sheet.specs.Run.{commandOf}
+use Rattle.commands.specs.Fields.{commandOf}
 use Rattle.lines.specs.CommandLine.{numbers}
 use Rattle.stream.specs.Responses.{response, lineResponse, answerText, respondedBy, respondOf}
 

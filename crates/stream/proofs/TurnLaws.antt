@@ -8,15 +8,15 @@ use borrow.Author.Tests.{ltb-true, ltb-false}
 use lib.Dec.{ltb}
 use lib.ListN.{length, getD, take, set, length-set}
 use Rattle.vector.specs.declared.vec3.Vec3.{Vec3}
-use Rattle.sheet.specs.declared.rows.Row.{Row}
-use Rattle.sheet.specs.declared.rows.Sheet.{Sheet}
-use Rattle.sheet.specs.declared.command.Command.{Command}
-use Rattle.sheet.specs.declared.command.Answer.{Answer}
-use Rattle.sheet.specs.declared.effects.Action.{Action}
-use Rattle.sheet.specs.declared.effects.Action.the-variants.{Tell, Put, PutTwo}
-use Rattle.sheet.specs.Rows.{empty, direction, rowOf, modelOf, rowAt}
-use Rattle.sheet.specs.Answers.{ModelAnswer, refused, shown, answerOf}
-use Rattle.sheet.specs.Model.{applied, stepOf}
+use Rattle.commands.specs.declared.row.Row.{Row}
+use Rattle.commands.specs.declared.rows.Sheet.{Sheet}
+use Rattle.commands.specs.declared.command.Command.{Command}
+use Rattle.commands.specs.declared.command.Answer.{Answer}
+use Rattle.commands.specs.declared.effects.Action.{Action}
+use Rattle.commands.specs.declared.effects.Action.the-variants.{Tell, Put, PutTwo}
+use Rattle.commands.specs.Rows.{empty, direction, rowOf, modelOf, rowAt}
+use Rattle.commands.specs.Answers.{ModelAnswer, refused, shown, answerOf}
+use Rattle.commands.specs.Model.{applied, stepOf}
 use Rattle.sheet.specs.Work.{effectBy}
 use Rattle.sheet.specs.Step.{effectAt, within}
 use Rattle.sheet.proofs.SheetRows.{row-read, row-written}

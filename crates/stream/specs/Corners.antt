@@ -11,11 +11,11 @@ use Rattle.vector.specs.Operators as Operators
 use Rattle.vector.specs.Products as Products
 use Rattle.vector.specs.Comparisons as Comparisons
 use Rattle.vector.specs.Normalizing as Normalizing
-use Rattle.sheet.specs.Rows as Rows
-use Rattle.sheet.specs.Fields as Fields
-use Rattle.sheet.specs.Results as Results
-use Rattle.sheet.specs.Refusals as Refusals
-use Rattle.sheet.specs.Model as Model
+use Rattle.commands.specs.Rows as Rows
+use Rattle.commands.specs.Fields as Fields
+use Rattle.commands.specs.Results as Results
+use Rattle.commands.specs.Refusals as Refusals
+use Rattle.commands.specs.Model as Model
 use Rattle.sheet.specs.Run as Run
 use Rattle.lines.specs.Field as Field
 use Rattle.lines.specs.Columns as Columns

@@ -7,14 +7,14 @@ use mathlib.Core.List.{List, [], _∷_, _++_}
 use mathlib.Core.Option.{Option, none, some}
 use lib.Dec.{eqb}
 use lib.ListN.{length}
-use Rattle.sheet.specs.declared.command.Command.{Command}
-use Rattle.sheet.specs.Codes.{illFormed}
-use Rattle.sheet.specs.Rows.{State, fresh}
-use Rattle.sheet.specs.Answers.{ModelAnswer, refused}
-use Rattle.sheet.specs.Model.{Stepped, stepOf}
-use Rattle.sheet.specs.Claim.{Claim}
+use Rattle.commands.specs.declared.command.Command.{Command}
+use Rattle.commands.specs.Codes.{illFormed}
+use Rattle.commands.specs.Rows.{State, fresh}
+use Rattle.commands.specs.Answers.{ModelAnswer, refused}
+use Rattle.commands.specs.Model.{Stepped, stepOf}
+use Rattle.commands.specs.Claim.{Claim}
 use Rattle.sheet.specs.Words.{stateWords, modelOf, lentStep}
-use Rattle.sheet.specs.Run.{commandOf}
+use Rattle.commands.specs.Fields.{commandOf}
 use Rattle.lines.specs.CommandLine.{numbers}
 use Rattle.stream.specs.Responses.{answerText}
 use Rattle.stream.specs.Stream.{lineFeed, Held, held, Fed, feedOf, endOf}

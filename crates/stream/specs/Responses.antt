@@ -6,11 +6,11 @@ use mathlib.Core.List.{List, _++_}
 use mathlib.Core.Option.{Option, none, some}
 use lib.Dec.{ltb}
 use lib.ListN.{length, drop}
-use Rattle.sheet.specs.declared.command.Command.{Command}
-use Rattle.sheet.specs.Codes.{illFormed, lentTooShort}
-use Rattle.sheet.specs.Answers.{ModelAnswer, refused}
-use Rattle.sheet.specs.Model.{Stepped, stepped}
-use Rattle.sheet.specs.Run.{commandOf}
+use Rattle.commands.specs.declared.command.Command.{Command}
+use Rattle.commands.specs.Codes.{illFormed, lentTooShort}
+use Rattle.commands.specs.Answers.{ModelAnswer, refused}
+use Rattle.commands.specs.Model.{Stepped, stepped}
+use Rattle.commands.specs.Fields.{commandOf}
 use Rattle.lines.specs.CommandLine.{numbers}
 use Rattle.lines.specs.AnswerLine.{answerLine, answerLength}
 

@@ -5,10 +5,10 @@ use mathlib.Core.Bool.{cond}
 use mathlib.Core.List.{List, [], _∷_, _++_}
 use lib.Dec.{eqb, ltb}
 use lib.ListN.{length, take, drop}
-use Rattle.sheet.specs.declared.command.Command.{Command}
-use Rattle.sheet.specs.Codes.{illFormed, lentTooShort}
-use Rattle.sheet.specs.Answers.{refused}
-use Rattle.sheet.specs.Model.{Stepped}
+use Rattle.commands.specs.declared.command.Command.{Command}
+use Rattle.commands.specs.Codes.{illFormed, lentTooShort}
+use Rattle.commands.specs.Answers.{refused}
+use Rattle.commands.specs.Model.{Stepped}
 use Rattle.lines.specs.CommandLine.{lineLength}
 use Rattle.lines.specs.AnswerLine.{answerLength}
 use Rattle.stream.specs.declared.Stream.{Stream}

@@ -4,10 +4,10 @@ use mathlib.Core.Path.{_≡_}
 use mathlib.Core.List.{List, [], _++_}
 use mathlib.Core.Option.{none}
 use lib.ListN.{length, getD, take, drop}
-use Rattle.sheet.specs.declared.command.Command.{Command}
-use Rattle.sheet.specs.Answers.{ModelAnswer}
+use Rattle.commands.specs.declared.command.Command.{Command}
+use Rattle.commands.specs.Answers.{ModelAnswer}
 use Rattle.sheet.specs.Words.{lentStep}
-use Rattle.sheet.specs.Run.{commandOf}
+use Rattle.commands.specs.Fields.{commandOf}
 use Rattle.lines.specs.CommandLine.{numbers}
 use Rattle.lines.specs.AnswerLine.{answerLength}
 use Rattle.stream.specs.declared.hear.Heard.{Heard}

@@ -8,9 +8,9 @@ use crate::Stream;
 use crate::hear::Heard;
 use crate::hear::hear;
 use crate::tell::tell;
+use commands::codes::ILL_FORMED;
+use commands::codes::LENT_TOO_SHORT;
 use lines::answer_line::ANSWER_LENGTH;
-use sheet::codes::ILL_FORMED;
-use sheet::codes::LENT_TOO_SHORT;
 use sheet::step::step_at;
 
 // The stream afterwards, how many bytes were taken, and how many put.

@@ -3,10 +3,10 @@ ghost use mathlib.Core.Path.{_≡_};
 ghost use Rattle.sheet.specs.Words.{lentStep};
 ghost use Rattle.stream.specs.Responses.{responded, respondOf};
 use crate::tell::tell;
+use commands::codes::ILL_FORMED;
+use commands::codes::LENT_TOO_SHORT;
 use lines::answer_line::ANSWER_LENGTH;
 use lines::command_line::fields;
-use sheet::codes::ILL_FORMED;
-use sheet::codes::LENT_TOO_SHORT;
 use sheet::step::step_at;
 
 // Runs the command of a line on the sheet that lies in the words, and writes its answer line over the first 43 bytes of out. Gives the number of the line's refusal, 0 where

@@ -1,5 +1,5 @@
 -- `sheet::answer::put_answer` meets its contract. Assumes nothing.
-use Rattle.sheet.specs.Answers.{answerOf}
+use Rattle.commands.specs.Answers.{answerOf}
 use borrow.Author.Needs.{needs}
 use Rattle.sheet.proofs.answer.put_answer.Statement.{statement}
 use Rattle.sheet.proofs.answer.put_answer.Tie as tie

@@ -1,5 +1,5 @@
 -- `sheet::answer::refusal_of` meets its contract. Assumes nothing.
-use Rattle.sheet.specs.Answers.{answerOf}
+use Rattle.commands.specs.Answers.{answerOf}
 use borrow.Author.Needs.{needs}
 use Rattle.sheet.proofs.answer.refusal_of.Statement.{statement}
 use Rattle.sheet.proofs.answer.refusal_of.Tie as tie

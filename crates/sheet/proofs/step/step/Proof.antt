@@ -1,7 +1,7 @@
 -- `sheet::step::step` meets its contract. Assumes nothing.
 use Prim.Native.Nat.{_+_, _<_}
-use Rattle.sheet.specs.Codes.{rowCount}
-use Rattle.sheet.specs.Answers.{answerOf}
+use Rattle.commands.specs.Codes.{rowCount}
+use Rattle.commands.specs.Answers.{answerOf}
 use Rattle.sheet.proofs.LentLaws.{lent-short}
 use Rattle.sheet.proofs.LentStepLaws.{Found, found, put-range, two-range, tells, puts, puts-two}
 use borrow.Author.Needs.{needs}

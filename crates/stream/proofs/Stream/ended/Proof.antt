@@ -2,7 +2,7 @@
 use mathlib.Core.Path.{_≡_, _∙_}
 use native.Mathlib.Omega.{arith}
 use lib.ListN.{length, length-take}
-use Rattle.sheet.specs.Answers.{answerOf}
+use Rattle.commands.specs.Answers.{answerOf}
 use Rattle.stream.proofs.AnswerLaws.{end-none, end-short, end-told}
 use borrow.Author.Needs.{needs}
 use Rattle.stream.proofs.Stream.ended.Statement.{statement}

@@ -5,8 +5,8 @@ use native.Mathlib.Omega.{arith}
 use mathlib.Core.Path.{_≡_, refl, sym}
 use lib.ListN.{length, take}
 use lib.Seq.{length-take-le}
-use Rattle.sheet.specs.Rows.{modelOf}
-use Rattle.sheet.specs.Answers.{answerOf}
+use Rattle.commands.specs.Rows.{modelOf}
+use Rattle.commands.specs.Answers.{answerOf}
 use Rattle.sheet.proofs.SheetRows.{length-of-map}
 use Rattle.stream.specs.Stream.{held}
 use Rattle.stream.proofs.FeedLaws.{take-min, feeding-all, length-feeding}

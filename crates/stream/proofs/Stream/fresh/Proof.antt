@@ -1,7 +1,7 @@
 -- `stream::Stream::fresh` meets its contract. Assumes nothing.
 use mathlib.Core.Path.{ap}
 use mathlib.Core.List.{[]}
-use Rattle.sheet.specs.Rows.{Model}
+use Rattle.commands.specs.Rows.{Model}
 use Rattle.stream.specs.Stream.{held}
 use borrow.Author.Needs.{needs}
 use Rattle.stream.proofs.Stream.fresh.Statement.{statement}

@@ -1,5 +1,5 @@
 -- `stream::respond::refusal_of` meets its contract. Assumes nothing.
-use Rattle.sheet.specs.Answers.{answerOf}
+use Rattle.commands.specs.Answers.{answerOf}
 use borrow.Author.Needs.{needs}
 use Rattle.stream.proofs.respond.refusal_of.Statement.{statement}
 use Rattle.stream.proofs.respond.refusal_of.Tie as tie

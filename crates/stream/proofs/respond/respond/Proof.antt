@@ -1,7 +1,7 @@
 -- `stream::respond::respond` meets its contract. Assumes nothing.
 use mathlib.Core.Path.{refl, sym, ap, _∙_}
-use Rattle.sheet.specs.Answers.{answerOf}
-use Rattle.sheet.specs.Model.{stepOf}
+use Rattle.commands.specs.Answers.{answerOf}
+use Rattle.commands.specs.Model.{stepOf}
 use Rattle.stream.proofs.HearLaws.{read-all, read-none}
 use Rattle.stream.proofs.ResponseLaws.{respond-short, respond-ill, respond-ran}
 use borrow.Author.Needs.{needs}

@@ -1,6 +1,6 @@
 -- `stream::tell::put_answer` meets its contract. Assumes nothing.
 use mathlib.Core.Path.{_∙_}
-use Rattle.sheet.specs.Answers.{answerOf, refused, shown, number, whole}
+use Rattle.commands.specs.Answers.{answerOf, refused, shown, number, whole}
 use Rattle.stream.proofs.AnswerLaws.{put-text}
 use borrow.Author.Needs.{needs}
 use Rattle.stream.proofs.tell.put_answer.Statement.{statement}

@@ -4,7 +4,7 @@ use mathlib.Core.Path.{_≡_, _∙_}
 use native.Mathlib.Omega.{arith}
 use lib.ListN.{length, take, drop, length-drop}
 use lib.Seq.{length-take-le}
-use Rattle.sheet.specs.Answers.{shown}
+use Rattle.commands.specs.Answers.{shown}
 use Rattle.stream.proofs.AnswerLaws.{put-text, told-part}
 use borrow.Author.Needs.{needs}
 use Rattle.stream.proofs.tell.tell_row.Statement.{statement}
