@@ -132,7 +132,7 @@ lengths-fit words n l h = go (ltb words stateWords) (ltb l (n / 7 * 6)) refl ref
     go false false ea eb k = (ltb-false words stateWords ea, ltb-false l (n / 7 * 6) eb)
 
 -- demand 3's claim, of lent words
-lent-claim : (w : List ℕ) (cs : List Command) → stateWords ≤ length w → Claim (modelOf w) cs (lentRun w cs .answers) (modelOf (lentRun w cs .state))
+pub lent-claim : (w : List ℕ) (cs : List Command) → stateWords ≤ length w → Claim (modelOf w) cs (lentRun w cs .answers) (modelOf (lentRun w cs .state))
 lent-claim w cs l =
     subst (λ (r : Ran State). Claim (modelOf w) cs (r .answers) (r .state)) (sym (run-lent w cs l)) (model-claim .every-list (modelOf w) cs)
 

@@ -1,5 +1,6 @@
 -- `sheet::step::step` meets its contract. Assumes nothing.
 use Prim.Native.Nat.{_+_, _<_}
+use native.Mathlib.Omega.{arith}
 use Rattle.commands.specs.Codes.{rowCount}
 use Rattle.commands.specs.Answers.{answerOf}
 use Rattle.sheet.proofs.LentLaws.{lent-short}
@@ -16,7 +17,7 @@ start p = p .before .before .before .before .before .before .before .before .bef
 effect-found : (p : tie.After-effect-of) → Found (start p .args .state .now) (start p .args .c) (p .effect-of .result)
 effect-found p =
     let read = p .before .before .before in
-    found _ _ _ _ (p .effect-of .result) (read .before .before .before .before .if1 .left) (read .row-at .ensures) (p .before .row-at2 .ensures) (p .effect-of .ensures)
+    found _ _ _ _ (p .effect-of .result) (omega (arith, read .before .before .before .before .if1 .left)) (read .row-at .ensures) (p .before .row-at2 .ensures) (p .effect-of .ensures)
 
 target : (p : tie.After-kind) → start (p .before .before) .args .c .t < rowCount
 target p = put-range (effect-found (p .before .before)) _ _ (p .kind .given .1)
@@ -36,7 +37,7 @@ put-row-requires-3 c κs = let h = targets (c .before .before .before .before .b
 
 returns : tie.Need-returns
 unfolding answerOf
-returns c = lent-short _ _ (c .if1 .taken)
+returns c = lent-short _ _ (omega (arith, c .if1 .taken))
 
 returns-2 : tie.Need-returns-2
 returns-2 c = let p = c .before in tells (effect-found (p .before .before)) _ (p .x .given .1)
