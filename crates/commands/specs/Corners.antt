@@ -65,6 +65,10 @@ pub record Corners : Type 0 where
   listed :
       answersTo listing
       ≡ answer 0 0 1 1077936128 1082130432 0 ∷ answer 0 0 3 1084227584 0 0 ∷ answer 0 1 2 1058642330 1061997773 0 ∷ []
+  -- "Fresh: all empty", and "4, a source empty"; "0: t, kind 0, zeros", and then the row is empty
+  all-empty : answersTo (command 32 0 0 0 0 0 0 ∷ command 32 0 63 0 0 0 0 ∷ []) ≡ refused 4 ∷ refused 4 ∷ []
+  emptied : lastOf (answersTo (listing ++ (command 0 1 0 0 0 0 0 ∷ []))) ≡ answer 0 1 0 0 0 0
+  empty-again : lastOf (answersTo (listing ++ (command 0 1 0 0 0 0 0 ∷ command 32 0 1 0 0 0 0 ∷ []))) ≡ refused 4
   -- "Command 2 on (2^-63, 0, 0) gives (1, 0, 0); on (2^-64, 0, 0) refusal 7."
   short : lastOf (answersTo (aimed 0x20000000 0 0)) ≡ answer 0 1 2 0x3f800000 0 0
   too-short : lastOf (answersTo (aimed 0x1f800000 0 0)) ≡ refused 7
@@ -87,6 +91,9 @@ corners = record {
   scalars = Scalars.corners;
   vectors = Vectors.corners;
   listed = refl;
+  all-empty = refl;
+  emptied = refl;
+  empty-again = refl;
   short = refl;
   too-short = refl;
   pair = refl;
