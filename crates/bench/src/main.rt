@@ -13,13 +13,13 @@ struct Turn {
 }
 
 // Answers the lines that end in the bytes, in as many turns as the answers need room.
-fn answer_all(stream: Stream, bytes: &[u8], out: &mut [u8]) -> Turn
+fn answer_all(stream: Stream, state: &mut [u32], bytes: &[u8], out: &mut [u8]) -> Turn
     requires { ⌜ 43 ≤ length (now out) ⌝ }
 {
     let mut s = stream;
     let mut at: usize = 0;
     while at < bytes.len() {
-        let t = s.feed(&bytes[at..], out);
+        let t = s.feed(state, &bytes[at..], out);
         s = t.stream;
         at += t.took;
         let put = t.put;
@@ -40,7 +40,7 @@ fn answer_all(stream: Stream, bytes: &[u8], out: &mut [u8]) -> Turn
 }
 
 // Reads once, and writes the answers of the lines that ended.
-fn read_once(stream: Stream, chunk: &mut [u8], out: &mut [u8]) -> Turn
+fn read_once(stream: Stream, state: &mut [u32], chunk: &mut [u8], out: &mut [u8]) -> Turn
     requires { ⌜ 43 ≤ length (now out) ⌝ }
 {
     let got = libc::read(STDIN_FILENO, chunk);
@@ -52,11 +52,12 @@ fn read_once(stream: Stream, chunk: &mut [u8], out: &mut [u8]) -> Turn
         };
     }
     let n = io::count(got, chunk);
-    answer_all(stream, &chunk[..n], out)
+    answer_all(stream, state, &chunk[..n], out)
 }
 
 // A proved loop has to end, so this one counts its turns down, from a number that no run uses up.
 fn main() {
+    let mut state = [0u32; 320];
     let mut stream = Stream::fresh();
     let mut chunk = [0u8; 65536];
     let mut out = [0u8; 65536];
@@ -67,13 +68,14 @@ fn main() {
             return;
         }
         turns -= 1;
-        let t = read_once(stream, &mut chunk, &mut out);
+        let t = read_once(stream, &mut state, &mut chunk, &mut out);
         if t.failed {
             return;
         }
         stream = t.stream;
         ended = t.ended;
     }
-    let put = stream.ended(&mut out);
+    let e = stream.ended(&mut out);
+    let put = e.put;
     io::write_all(STDOUT_FILENO, &out[..put]);
 }

@@ -5,8 +5,7 @@ ghost use lib.Ieee.{binary32};
 ghost use Rattle.scalar.specs.Root as Root;
 ghost use Rattle.scalar.specs.Fused as Fused;
 ghost use Rattle.scalar.specs.Integral as Integral;
-ghost use Rattle.sheet.specs.Run.{listRefusal};
-ghost use Rattle.capi.specs.Lists.{answered};
+ghost use Rattle.sheet.specs.Run.{RunsAll};
 
 #[no_mangle]
 pub extern "C" fn bench_sqrt(x: f32) -> f32
@@ -54,9 +53,7 @@ pub extern "C" fn bench_rem(a: f32, b: f32) -> f32
 // refused: 9 where too few numbers are lent, 1 where the list ends within a command.
 #[no_mangle]
 pub extern "C" fn bench_run(commands: &[u32], answers: &mut [u32]) -> u32
-    ensures { λ r. ⌜ r ≡ listRefusal (now (commands .entry)) (now (answers .entry)) ⌝ }
-    ensures { λ _. ⌜ now (answers .exit) ≡ answered (now (commands .entry)) (now (answers .entry)) ⌝ }
+    ensures { λ r. ⌜ RunsAll (now (commands .entry)) (now (answers .entry)) (now (answers .exit)) r ⌝ }
 {
-    let r = sheet::run::run_all(commands, answers);
-    r.refusal
+    sheet::run::run_all(commands, answers)
 }

@@ -13,6 +13,10 @@ widths = 3 ∷ 3 ∷ 3 ∷ 11 ∷ 11 ∷ 11 ∷ []
 unfoldable pub answerLine : ℕ → ℕ → ℕ → ℕ → ℕ → ℕ → List ℕ
 answerLine refusal row kind x y z = text widths (refusal ∷ row ∷ kind ∷ x ∷ y ∷ z ∷ []) ++ (10 ∷ [])
 
+-- "42 bytes and a line feed"
+abbrev pub answerLength : ℕ
+answerLength = 43
+
 -- the lent bytes afterwards: "fewer than 43 bytes lent for an answer line, [..] no byte written"; "Longer buffers stay unchanged past their first 43 bytes."
 unfoldable pub put : ℕ → ℕ → ℕ → ℕ → ℕ → ℕ → List ℕ → List ℕ
-put refusal row kind x y z out = cond (ltb (length out) 43) out (answerLine refusal row kind x y z ++ drop 43 out)
+put refusal row kind x y z out = cond (ltb (length out) answerLength) out (answerLine refusal row kind x y z ++ drop answerLength out)

@@ -11,9 +11,13 @@ use Rattle.lines.specs.Columns.{numbersAt}
 abbrev pub widths : List ℕ
 widths = 3 ∷ 3 ∷ 3 ∷ 3 ∷ 11 ∷ 11 ∷ 11 ∷ []
 
+-- "45 bytes and a line feed"
+abbrev pub lineLength : ℕ
+lineLength = 45
+
 -- the seven numbers of the bytes before a line feed: none where the line is ill formed
 unfoldable pub numbers : List ℕ → Option (List ℕ)
-numbers l = cond (eqb (length l) 45) (numbersAt 0 widths l) none
+numbers l = cond (eqb (length l) lineLength) (numbersAt 0 widths l) none
 
 -- ---- the numbers in places that a caller lends
 

@@ -6,11 +6,14 @@ ghost use Rattle.lines.specs.AnswerLine as AnswerLine;
 ghost use Rattle.lines.specs.ColumnParts.{putField};
 use crate::field::put_number;
 
+// The bytes of an answer line, its line feed too.
+pub const ANSWER_LENGTH: usize = 43;
+
 // Writes the six numbers as an answer line over the first 43 bytes of out; where fewer are lent, writes nothing.
 pub fn put_six(out: &mut [u8], refusal: u32, row: u32, kind: u32, x: u32, y: u32, z: u32)
     ensures { λ _. ⌜ now (out .exit) ≡ AnswerLine.put refusal row kind x y z (now (out .entry)) ⌝ }
 {
-    if out.len() < 43 {
+    if out.len() < ANSWER_LENGTH {
         return;
     }
     put_field(out, 0, 3, refusal);
@@ -19,7 +22,7 @@ pub fn put_six(out: &mut [u8], refusal: u32, row: u32, kind: u32, x: u32, y: u32
     put_field(out, 9, 11, x);
     put_field(out, 20, 11, y);
     put_field(out, 31, 11, z);
-    out[42] = b'\n';
+    out[ANSWER_LENGTH - 1] = b'\n';
 }
 
 // Writes a field of w columns from `at` on.

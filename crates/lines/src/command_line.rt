@@ -10,6 +10,9 @@ use crate::field::digits;
 use crate::field::number;
 use crate::narrow;
 
+// The bytes of a command line, without its line feed.
+pub const LINE_LENGTH: usize = 45;
+
 // Reads the numbers of a line into the first seven places of f, and answers whether it did: it does not where the line is ill formed,
 // nor where fewer than seven places are lent. An enum with the numbers in its case would have them copied once more.
 pub fn fields(line: &[u8], f: &mut [u32]) -> bool
@@ -19,7 +22,7 @@ pub fn fields(line: &[u8], f: &mut [u32]) -> bool
     if f.len() < 7 {
         return false;
     }
-    if line.len() != 45 {
+    if line.len() != LINE_LENGTH {
         return false;
     }
     let Reading::Value(n) = field_of_3(line, 0) else {

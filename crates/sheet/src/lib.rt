@@ -1,7 +1,5 @@
-// Layer 3, the sheet: 64 rows, the commands that a planner runs on them, and their answers.
-pub mod command;
-pub mod effects;
-pub mod refusal;
+// Layer 3, the sheet: 64 rows in words that a caller lends, one command in place, and a whole list.
+mod answer;
 pub mod rows;
 pub mod run;
 pub mod step;

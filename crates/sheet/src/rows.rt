@@ -1,54 +1,60 @@
-// The rows of a sheet.
+// The rows of a sheet, which lies in words that a caller lends: 64 rows of five words, the kind, three numbers as bits, and a fourth that is 0.
 ghost use mathlib.Core.Path.{_≡_};
-ghost use Rattle.sheet.specs.Rows as Rows;
-ghost use Rattle.sheet.specs.Rows.{modelOf, rowOf};
+ghost use mathlib.Core.List.{[], _∷_};
+ghost use Prim.Native.Nat.{_+_, _≤_, _<_};
+ghost use lib.ListN.{length};
+ghost use lib.Seq.{sets};
+ghost use Rattle.commands.specs.Rows.{rowOf, rowAt};
+ghost use Rattle.sheet.specs.Words.{stateWords, modelOf, putRow};
+use commands::row::Row;
+use scalar::bits::from_bits;
+use scalar::bits::to_bits;
 use vector::vec3::Vec3;
 
-// Kind 0 is empty, its numbers +0; 1 is a point; 2 a direction.
-pub struct Row {
-    pub kind: u32,
-    pub v: Vec3,
+// The words of a row, and of a sheet: what is behind them is the caller's.
+const ROW_WIDTH: usize = 5;
+
+pub const STATE_WORDS: usize = 320;
+
+// Row i.
+pub(crate) fn row_at(state: &[u32], i: usize) -> Row
+    requires { ⌜ (i < 64) × (stateWords ≤ length (now state)) ⌝ }
+    ensures { λ r. ⌜ rowOf r ≡ rowAt (modelOf (now (state .entry)) .rows) i ⌝ }
+{
+    let k = i * ROW_WIDTH;
+    Row {
+        kind: state[k],
+        v: Vec3 {
+            x: from_bits(state[k + 1]),
+            y: from_bits(state[k + 2]),
+            z: from_bits(state[k + 3]),
+        },
+    }
 }
 
-impl Row {
-    pub const EMPTY: Row = Row {
-        kind: 0,
-        v: Vec3::ZERO,
-    };
+fn put_five(state: &mut [u32], at: usize, kind: u32, x: u32, y: u32, z: u32, w: u32)
+    requires { ⌜ at + 5 ≤ length (now state) ⌝ }
+    ensures { λ _. ⌜ now (state .exit) ≡ sets (now (state .entry)) at (kind ∷ x ∷ y ∷ z ∷ w ∷ []) ⌝ }
+{
+    state[at] = kind;
+    state[at + 1] = x;
+    state[at + 2] = y;
+    state[at + 3] = z;
+    state[at + 4] = w;
 }
 
-pub struct Sheet {
-    pub rows: [Row; 64],
-}
-
-impl Sheet {
-    // All rows empty.
-    pub fn fresh() -> Sheet
-        ensures { λ r. ⌜ modelOf r ≡ Rows.fresh ⌝ }
-    {
-        let rows = [Row::EMPTY; 64];
-        Sheet { rows: rows }
-    }
-
-    // Row i, or an empty row where there is none.
-    pub fn row(self, i: u32) -> Row
-        ensures { λ r. ⌜ rowOf r ≡ Rows.rowAt (modelOf self) i ⌝ }
-    {
-        let at = i as usize;
-        if at < 64 { self.rows[at] } else { Row::EMPTY }
-    }
-
-    // The sheet with row i replaced, or as it was where there is none.
-    pub fn with_row(self, i: u32, row: Row) -> Sheet
-        ensures { λ r. ⌜ modelOf r ≡ Rows.written (modelOf self) i (rowOf row) ⌝ }
-    {
-        let at = i as usize;
-        if at < 64 {
-            let mut s = self;
-            s.rows[at] = row;
-            s
-        } else {
-            self
-        }
-    }
+// Writes row i, and no other word.
+pub(crate) fn put_row(state: &mut [u32], i: usize, kind: u32, v: Vec3)
+    requires { ⌜ (i < 64) × (stateWords ≤ length (now state)) ⌝ }
+    ensures { λ _. ⌜ now (state .exit) ≡ putRow (now (state .entry)) i (record { kind = kind; numbers = v }) ⌝ }
+{
+    put_five(
+        state,
+        i * ROW_WIDTH,
+        kind,
+        to_bits(v.x),
+        to_bits(v.y),
+        to_bits(v.z),
+        0,
+    );
 }

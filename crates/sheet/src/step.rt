@@ -1,102 +1,73 @@
-// One command: its refusal or its work, and the rows that it writes.
+// One command, in place: its refusal or its effect, and the rows that it writes. No other function writes rows.
 ghost use mathlib.Core.Path.{_≡_};
-ghost use Rattle.sheet.specs.Rows.{modelOf, rowOf};
-ghost use Rattle.sheet.specs.Model as Model;
-ghost use Rattle.sheet.specs.Work.{effectBy};
-ghost use Rattle.sheet.specs.Step.{within, effectAt, steppedOf};
-use crate::command::Answer;
-use crate::command::Command;
-use crate::effects::Action;
-use crate::effects::work;
-use crate::refusal::refusal;
-use crate::rows::Row;
-use crate::rows::Sheet;
-use vector::vec3::Vec3;
+ghost use lib.ListN.{drop};
+ghost use Rattle.commands.specs.Answers.{answerOf};
+ghost use Rattle.commands.specs.Model.{stepped};
+ghost use Rattle.sheet.specs.Words.{lentStep};
+ghost use Rattle.commands.specs.Fields.{commandOf};
+ghost use Rattle.sheet.specs.Run.{steppedAt, lentStepAt};
+use crate::answer::put_answer;
+use crate::answer::refusal_of;
+use crate::rows::STATE_WORDS;
+use crate::rows::put_row;
+use crate::rows::row_at;
+use commands::codes::DIRECTION;
+use commands::codes::LENT_TOO_SHORT;
+use commands::command::Answer;
+use commands::command::Command;
+use commands::command::command_at;
+use commands::effects::Effect;
+use commands::effects::effect_of;
 
-// The sheet after a command, and its answer.
-pub struct Outcome {
-    pub sheet: Sheet,
-    pub answer: Answer,
-}
-
-// A row that the sheet has not cannot be written: its answer is told all the same.
-fn put_within(t: u32, kind: u32, v: Vec3) -> Action
-    ensures { λ r. ⌜ effectBy r ≡ within t (Model.Puts (record { kind = kind; numbers = v })) ⌝ }
+// The command on the sheet that lies in the words. A row above 63 is refused where it is used, and not read where it is not: any row may stand in its place.
+pub fn step(state: &mut [u32], c: Command) -> Answer
+    ensures { λ r. ⌜ stepped (now (state .exit)) (answerOf r) ≡ lentStep (now (state .entry)) c ⌝ }
 {
-    if t < 64 {
-        Action::Put { kind: kind, v: v }
-    } else {
-        Action::Tell(Answer::Shown {
-            row: t,
-            kind: kind,
-            v: v,
-        })
+    if state.len() < STATE_WORDS {
+        return Answer::Refused(LENT_TOO_SHORT);
     }
-}
-
-fn action_within(t: u32, d: Action) -> Action
-    ensures { λ r. ⌜ effectBy r ≡ within t (effectBy d) ⌝ }
-{
-    match d {
-        Action::Tell(x) => Action::Tell(x),
-        Action::Put { kind, v } => put_within(t, kind, v),
-        Action::PutTwo { v, w } => {
-            if t < 63 {
-                Action::PutTwo { v: v, w: w }
-            } else {
-                put_within(t, 2, v)
+    let a = (c.a % 64) as usize;
+    let b = (c.b % 64) as usize;
+    let row_a = row_at(state, a);
+    let row_b = row_at(state, b);
+    match effect_of(c, row_a, row_b) {
+        Effect::Tell(x) => x,
+        Effect::Put { kind, v } => {
+            let t = c.t as usize;
+            put_row(state, t, kind, v);
+            Answer::Shown {
+                row: c.t,
+                kind: kind,
+                v: v,
+            }
+        }
+        Effect::PutTwo { v, w } => {
+            let t = c.t as usize;
+            put_row(state, t, DIRECTION, v);
+            let next = t + 1;
+            put_row(state, next, DIRECTION, w);
+            Answer::Shown {
+                row: c.t,
+                kind: DIRECTION,
+                v: v,
             }
         }
     }
 }
 
-// What a command comes to, from its two source rows: it sees no sheet, so that whoever owns one writes the rows in place.
-pub fn action_of(c: Command, a: Row, b: Row) -> Action
-    ensures { λ r. ⌜ effectBy r ≡ within (c .t) (effectAt c (rowOf a) (rowOf b)) ⌝ }
+// The same in numbers, with no struct and no enum across the call: the seven from `from` on give the command, and its answer's six go to the places from `at` on.
+// Gives the answer's refusal; 9 where there are not so many places, and then nothing is run.
+pub fn step_at(state: &mut [u32], numbers: &[u32], from: usize, out: &mut [u32], at: usize) -> u32
+    ensures { λ r. ⌜ steppedAt (now (state .exit)) (now (out .exit)) r ≡ lentStepAt (now (state .entry)) (commandOf (drop from (now (numbers .entry)))) (now (out .entry)) at ⌝ }
 {
-    let k = refusal(c, a.kind, b.kind);
-    if k == 0 {
-        action_within(c.t, work(c, a, b))
-    } else {
-        Action::Tell(Answer::Refused(k))
+    if out.len() < 6 {
+        return LENT_TOO_SHORT;
     }
-}
-
-impl Sheet {
-    // The command on this sheet.
-    pub fn step(self, c: Command) -> Outcome
-        ensures { λ r. ⌜ steppedOf r ≡ Model.stepOf (modelOf self) c ⌝ }
-    {
-        let a = self.row(c.a);
-        let b = self.row(c.b);
-        match action_of(c, a, b) {
-            Action::Tell(x) => Outcome {
-                sheet: self,
-                answer: x,
-            },
-            Action::Put { kind, v } => {
-                let s = self.with_row(c.t, Row { kind: kind, v: v });
-                Outcome {
-                    sheet: s,
-                    answer: Answer::Shown {
-                        row: c.t,
-                        kind: kind,
-                        v: v,
-                    },
-                }
-            }
-            Action::PutTwo { v, w } => {
-                let first = self.with_row(c.t, Row { kind: 2, v: v });
-                let s = first.with_row(c.t + 1, Row { kind: 2, v: w });
-                Outcome {
-                    sheet: s,
-                    answer: Answer::Shown {
-                        row: c.t,
-                        kind: 2,
-                        v: v,
-                    },
-                }
-            }
-        }
+    if out.len() - 6 < at {
+        return LENT_TOO_SHORT;
     }
+    let c = command_at(numbers, from);
+    let x = step(state, c);
+    put_answer(out, at, x);
+    refusal_of(x)
 }

@@ -1,23 +1,17 @@
--- What the next bytes come to: a whole line read where it lies is what its bytes come to, one by one. Assumes nothing.
+-- What the next bytes come to: the end of a line, at the next byte or where a whole line lies. Assumes nothing.
 use Prim.Native.Nat.{ℕ, _+_, _≤_, _<_}
 use mathlib.Core.Bool.{true, false}
 use mathlib.Core.Path.{_≡_, refl, sym, ap, _∙_}
-use mathlib.Core.List.{List, [], _∷_, _++_, append-assoc, append-nil}
+use mathlib.Core.List.{List, [], _∷_, _++_, append-nil}
 use mathlib.Core.Option.{Option, none, some}
 use native.Mathlib.Omega.{arith}
-use borrow.Author.Tests.{lt-ltb, le-ltb, ne-eqb}
-use lib.ListN.{length, getD, take, drop, length-append, length-drop, drop-of-length-le}
-use lib.Seq.{take-suc, getD-drop, length-take-le, drop-cons}
-use Rattle.sheet.specs.Rows.{Model}
-use Rattle.sheet.specs.Model.{stepOf}
-use Rattle.sheet.specs.Run.{commandOf}
+use borrow.Author.Tests.{le-ltb}
+use lib.ListN.{length, getD, take, drop, length-drop, drop-of-length-le}
+use lib.Seq.{take-suc, getD-drop, drop-cons}
 use Rattle.lines.specs.CommandLine.{numbers, taken, isRead, put}
 use Rattle.lines.specs.LineMeaning.{NoLineFeed}
 use Rattle.lines.proofs.LineMeaningLaws.{well-formed-whole}
-use Rattle.stream.specs.Responses.{response, answerText}
-use Rattle.stream.specs.Stream.{Held, held, pushed, Fed, byteFed, feedOf}
-use Rattle.stream.specs.Turns.{ranOf, IsRun}
-use Rattle.stream.proofs.PieceLaws.{feed-append-held, feed-append-text}
+use Rattle.stream.specs.Turns.{Ends, IsRun}
 
 -- ---- the numbers of a line, in seven lent places
 module _ (l f : List ℕ) (seven : length f ≡ 7) where
@@ -44,47 +38,19 @@ module _ (l f : List ℕ) (seven : length f ≡ 7) where
       go none r = refl
       go (some ns) r = cc
 
--- ---- bytes with no line feed among them are held, as far as 46 go
-free-fed : (m : Model) (p l : List ℕ) → NoLineFeed l → length p + length l ≤ 46 → feedOf (held m p) l ≡ record { held = held m (p ++ l); text = [] }
-unfolding feedOf byteFed pushed NoLineFeed
-free-fed m p [] f h = rw (append-nil p)
-free-fed m p (b ∷ l) f h =
-    let lt : length p < 46 = omega arith in
-    let le : length (p ++ (b ∷ [])) + length l ≤ 46 = omega (arith, length-append p (b ∷ [])) in
-    rw (ne-eqb _ _ (f .0), lt-ltb _ _ lt, free-fed m (p ++ (b ∷ [])) l (f .1) le, append-assoc p (b ∷ []) l)
+-- ---- the end of a line
+module _ (bytes : List ℕ) (i : ℕ) where
+  pub end-next : i < length bytes → getD bytes i 0 ≡ 10 → Ends bytes i 1 []
+  unfolding NoLineFeed
+  end-next h e = record { part = omega arith; no-line-feed = tt; next = rw (drop-cons bytes i 0 h, e) }
 
--- a line feed after the bytes of a well formed line
-end-fed : (m : Model) (l ns : List ℕ) → numbers l ≡ some ns → feedOf (held m l) (10 ∷ []) ≡ ranOf m (commandOf ns)
-unfolding feedOf byteFed response
-end-fed m l ns h = rw (h, append-nil (answerText (stepOf m (commandOf ns) .answer)))
+  pub hear-end : (text ns : List ℕ) → i < length bytes → getD bytes i 0 ≡ 10 → numbers text ≡ some ns → IsRun bytes i text ns 1
+  hear-end text ns h e p = record { rest = []; ends = end-next h e; line = rw (append-nil text) p }
 
-both : (x y : Fed) → x .held ≡ y .held → x .text ≡ y .text → x ≡ y
-both x y p q = ap (λ (a : Held). record { held = a; text = x .text }) p ∙ ap (λ (t : List ℕ). record { held = y .held; text = t }) q
-
-line-fed : (m : Model) (l ns : List ℕ) → length l ≤ 46 → numbers l ≡ some ns → feedOf (held m []) (l ++ (10 ∷ [])) ≡ ranOf m (commandOf ns)
-line-fed m l ns n h =
-    let e : feedOf (held m []) l ≡ record { held = held m l; text = [] } = free-fed m [] l (well-formed-whole l ns h) (omega arith) in
-    let w : feedOf (held m l) (10 ∷ []) ≡ ranOf m (commandOf ns) = end-fed m l ns h in
-    both (feedOf (held m []) (l ++ (10 ∷ []))) (ranOf m (commandOf ns))
-    (rw (feed-append-held (held m []) l (10 ∷ []), e, w))
-    (rw (feed-append-text (held m []) l (10 ∷ []), e, w))
-
--- ---- a line that lies whole in the bytes, and one that the next byte ends
-pub hear-line : (bytes : List ℕ) (i : ℕ) (text ns : List ℕ)
-    → length text ≡ 0
-    → i + 46 ≤ length bytes
-    → getD bytes (i + 45) 0 ≡ 10
-    → numbers (take 45 (drop i bytes)) ≡ some ns
-    → IsRun bytes i text (commandOf ns) 46
-hear-line bytes i [] ns z h e p =
-    let lt : 45 < length (drop i bytes) = omega (arith, length-drop i bytes) in
-    let t : take 46 (drop i bytes) ≡ take 45 (drop i bytes) ++ (10 ∷ []) = take-suc (drop i bytes) 45 0 lt ∙ rw (getD-drop i bytes 45 0, e) in
-    let n : length (take 45 (drop i bytes)) ≤ 46 = omega (arith, length-take-le 45 (drop i bytes) (omega arith)) in
-    record { some-byte = omega arith; part = h; ran = λ m. rw t (line-fed m (take 45 (drop i bytes)) ns n p) }
-hear-line bytes i (b ∷ l) ns z h e p = absurd (omega arith)
-
-pub hear-end : (bytes : List ℕ) (i : ℕ) (text ns : List ℕ) → i < length bytes → getD bytes i 0 ≡ 10 → numbers text ≡ some ns
-    → IsRun bytes i text (commandOf ns) 1
-hear-end bytes i text ns h e p =
-    let t : take 1 (drop i bytes) ≡ 10 ∷ [] = rw (drop-cons bytes i 0 h, e) in
-    record { some-byte = omega arith; part = omega arith; ran = λ m. rw t (end-fed m text ns p) }
+  pub hear-line : (text ns : List ℕ) → length text ≡ 0 → i + 46 ≤ length bytes → getD bytes (i + 45) 0 ≡ 10 → numbers (take 45 (drop i bytes)) ≡ some ns
+      → IsRun bytes i text ns 46
+  hear-line [] ns z h e p =
+      let lt : 45 < length (drop i bytes) = omega (arith, length-drop i bytes) in
+      let next : take 46 (drop i bytes) ≡ take 45 (drop i bytes) ++ (10 ∷ []) = take-suc (drop i bytes) 45 0 lt ∙ rw (getD-drop i bytes 45 0, e) in
+      record { rest = take 45 (drop i bytes); ends = record { part = h; no-line-feed = well-formed-whole (take 45 (drop i bytes)) ns p; next = next }; line = p }
+  hear-line (b ∷ l) ns z h e p = absurd (omega arith)

@@ -5,13 +5,14 @@ use mathlib.Core.Path.{_≡_, refl, sym, subst}
 use mathlib.Core.List.{List, [], _∷_, _++_, append-assoc, append-nil}
 use lib.Dec.{eqb·suc-zero}
 use lib.ListN.{length, take}
-use Rattle.sheet.specs.Rows.{Model, fresh}
-use Rattle.sheet.specs.Answers.{ModelAnswer, refused}
-use Rattle.sheet.specs.Model.{runOf}
-use Rattle.sheet.specs.Claim.{Claim}
-use Rattle.sheet.proofs.ClaimLaws.{model-claim}
+use Rattle.commands.specs.Codes.{illFormed}
+use Rattle.commands.specs.Rows.{State}
+use Rattle.commands.specs.Answers.{ModelAnswer, refused}
+use Rattle.commands.specs.Model.{stepOf, runFrom}
+use Rattle.commands.specs.Claim.{Claim}
+use Rattle.commands.proofs.ClaimLaws.{model-claim}
 use Rattle.stream.specs.Responses.{answerText}
-use Rattle.stream.specs.Stream.{Held, endOf}
+use Rattle.stream.specs.Stream.{endOf}
 use Rattle.stream.specs.Inputs.{cut, commandsIn, between, texts, fed, lastAnswer, InputsAnswered}
 use Rattle.stream.proofs.KeptLineLaws.{kept}
 use Rattle.stream.proofs.LineFeedLaws.{input-fed}
@@ -22,21 +23,20 @@ texts-append [] ys = refl
 texts-append (x ∷ xs) ys = rw (texts-append xs ys) (sym (append-assoc (answerText x) (texts xs) (texts ys)))
 
 -- the end of an input, by the bytes after its last line feed
-end-answer : (h : Held) (rest : List ℕ) → h .text ≡ kept rest → endOf h ≡ texts (lastAnswer rest)
+end-answer : (text rest : List ℕ) → text ≡ kept rest → endOf text ≡ texts (lastAnswer rest)
 unfolding endOf texts lastAnswer
-end-answer h [] e = rw e refl
-end-answer h (b ∷ rest) e = rw (e, eqb·suc-zero (length (take 45 rest))) (sym (append-nil (answerText (refused 1))))
+end-answer text [] e = rw e refl
+end-answer text (b ∷ rest) e = rw (e, eqb·suc-zero (length (take 45 rest))) (sym (append-nil (answerText (refused illFormed))))
 
 pub inputs-answered : InputsAnswered
-unfolding runOf
-inputs-answered input =
+inputs-answered start input =
     let lines = cut input .lines in
-    let cs = commandsIn lines in
-    let f = input-fed fresh input in
+    let run = runFrom start (commandsIn lines) .answers in
+    let f = input-fed stepOf start input in
     record {
-      run = runOf cs .answers;
-      claim = subst (λ (m : Model). Claim cs (runOf cs .answers) m) (sym (f .rows)) (model-claim cs);
+      run = run;
+      claim = subst (λ (s : State). Claim start (commandsIn lines) run s) (sym (f .state)) (model-claim .every-list start (commandsIn lines));
       output =
-          rw (f .text, end-answer (fed input .held) (cut input .rest) (f .rest))
-          (sym (texts-append (between lines (runOf cs .answers)) (lastAnswer (cut input .rest))));
+          rw (f .text, end-answer (fed start input .held .text) (cut input .rest) (f .rest))
+          (sym (texts-append (between lines run) (lastAnswer (cut input .rest))));
     }

@@ -1,41 +1,39 @@
--- What `respond` leaves, in each of its three cases. Assumes nothing.
+-- What `respond` leaves: nothing where too few bytes are lent, and else the line's answer. Assumes nothing.
 use Prim.Native.Nat.{ℕ, _≤_, _<_}
-use mathlib.Core.Path.{_≡_, refl, sym, ap, ap₂, _∙_}
-use mathlib.Core.List.{List, _++_}
+use mathlib.Core.Path.{_≡_, refl}
+use mathlib.Core.List.{List}
 use mathlib.Core.Option.{none, some}
 use borrow.Author.Tests.{lt-ltb, le-ltb}
-use lib.ListN.{length, drop}
-use Rattle.sheet.specs.declared.rows.Sheet.{Sheet}
-use Rattle.sheet.specs.declared.step.Outcome.{Outcome}
-use Rattle.sheet.specs.Rows.{modelOf}
-use Rattle.sheet.specs.Answers.{refused, answerOf}
-use Rattle.sheet.specs.Model.{Stepped, stepOf}
-use Rattle.sheet.specs.Step.{steppedOf}
-use Rattle.sheet.specs.Run.{commandOf}
+use lib.ListN.{length, getD}
+use Rattle.commands.specs.Answers.{refused}
+use Rattle.commands.specs.Model.{stepped}
+use Rattle.sheet.specs.Words.{lentStep}
+use Rattle.commands.specs.Fields.{commandOf}
+use Rattle.sheet.specs.Run.{steppedAt, lentStepAt}
 use Rattle.lines.specs.CommandLine.{numbers}
-use Rattle.stream.specs.Responses.{response, lineResponse, answerText, respondedBy, respondOf}
+use Rattle.stream.specs.Responses.{response, lineResponse, responded, respondOf}
+use Rattle.stream.specs.Turns.{toldAt, answerFrom}
+use Rattle.stream.proofs.TurnLaws.{step-told}
 
-module _ (s : Sheet) (line out : List ℕ) where
-  pub respond-short : length out < 43 → respondedBy (record { sheet = s; refusal = 9 }) out ≡ respondOf (modelOf s) line out
+-- ---- the line's answer
+module _ (w line : List ℕ) where
+  pub answer-ill : numbers line ≡ none → stepped w (refused 1) ≡ lineResponse lentStep w line
+  unfolding response
+  answer-ill e = rw e refl
+
+  pub answer-ran : (ns w′ six six′ : List ℕ) (k : ℕ) → numbers line ≡ some ns → length six ≡ 6 → steppedAt w′ six′ k ≡ lentStepAt w (commandOf ns) six 0
+      → stepped w′ (answerFrom six′) ≡ lineResponse lentStep w line
+  unfolding response
+  answer-ran ns w′ six six′ k e n s = rw e (step-told w w′ six six′ (commandOf ns) k n s)
+
+-- ---- and the lent bytes
+module _ (w line out : List ℕ) where
+  pub respond-short : length out < 43 → responded w 9 out ≡ respondOf lentStep w line out
   unfolding respondOf
   respond-short h = rw (lt-ltb _ _ h) refl
 
-  module _ (out′ : List ℕ) (long : 43 ≤ length out) where
-    -- the rows and the answer of the line, and its answer line
-    answered : (o : Stepped) → lineResponse (modelOf s) line ≡ o → record { rows = o .rows; refusal = o .answer .refusal; bytes = answerText (o .answer) ++ drop 43 out } ≡ respondOf (modelOf s) line out
-    unfolding respondOf
-    answered o e = rw (le-ltb _ _ long, e) refl
-
-    pub respond-ill : numbers line ≡ none → out′ ≡ answerText (refused 1) ++ drop 43 out → respondedBy (record { sheet = s; refusal = 1 }) out′ ≡ respondOf (modelOf s) line out
-    unfolding response
-    respond-ill e w =
-        ap (λ (b : List ℕ). respondedBy (record { sheet = s; refusal = 1 }) b) w
-        ∙ answered (record { rows = modelOf s; answer = refused 1 }) (ap (response (modelOf s)) e)
-
-    pub respond-ran :
-        (ns : List ℕ) (o : Outcome) (k : ℕ) → numbers line ≡ some ns → steppedOf o ≡ stepOf (modelOf s) (commandOf ns) → k ≡ answerOf (o .answer) .refusal
-        → out′ ≡ answerText (answerOf (o .answer)) ++ drop 43 out → respondedBy (record { sheet = o .sheet; refusal = k }) out′ ≡ respondOf (modelOf s) line out
-    unfolding response
-    respond-ran ns o k e st r w =
-        ap₂ (λ (n : ℕ) (b : List ℕ). respondedBy (record { sheet = o .sheet; refusal = n }) b) r w
-        ∙ answered (steppedOf o) (ap (response (modelOf s)) e ∙ sym st)
+  -- the six numbers of the line's answer, written as its answer line
+  pub respond-told : (w′ six out′ : List ℕ) → 43 ≤ length out → stepped w′ (answerFrom six) ≡ lineResponse lentStep w line → out′ ≡ toldAt 0 (answerFrom six) out
+      → responded w′ (getD six 0 0) out′ ≡ respondOf lentStep w line out
+  unfolding respondOf
+  respond-told w′ six out′ long e o = rw (le-ltb _ _ long, ← e, o) refl

@@ -11,12 +11,14 @@ use Rattle.vector.specs.Operators as Operators
 use Rattle.vector.specs.Products as Products
 use Rattle.vector.specs.Comparisons as Comparisons
 use Rattle.vector.specs.Normalizing as Normalizing
-use Rattle.sheet.specs.Rows as Rows
-use Rattle.sheet.specs.Fields as Fields
-use Rattle.sheet.specs.Results as Results
-use Rattle.sheet.specs.Refusals as Refusals
-use Rattle.sheet.specs.Model as Model
-use Rattle.sheet.specs.Run as Run
+use Rattle.commands.specs.Rows as Rows
+use Rattle.commands.specs.Rows.{fresh}
+use Rattle.commands.specs.Results as Results
+use Rattle.commands.specs.Commands as Commands
+use Rattle.commands.specs.Refusals as Refusals
+use Rattle.commands.specs.Effects as Effects
+use Rattle.commands.specs.Model as Model
+use Rattle.commands.specs.Fields as Fields
 use Rattle.lines.specs.Field as Field
 use Rattle.lines.specs.Columns as Columns
 use Rattle.lines.specs.CommandLine as CommandLine
@@ -50,19 +52,19 @@ ill = line "  1  0  0          0          0          0"
 pub record Corners : Type 0 where
   -- "(the point (3, 4, 0), its length, its direction) prints"
   listed :
-      outputOf (point ++ length ++ line "  2  1  0  0          0          0          0")
+      outputOf fresh (point ++ length ++ line "  2  1  0  0          0          0          0")
       ≡ pointAnswer ++ lengthAnswer ++ line "  0  1  2 1058642330 1061997773          0"
   -- "input without bytes gives no output"
-  empty : outputOf [] ≡ []
+  empty : outputOf fresh [] ≡ []
   -- "1, not 45 bytes before a line feed"
-  blank-line : outputOf (10 ∷ []) ≡ ill
-  column-more : outputOf (32 ∷ point) ≡ ill
-  columns-more : outputOf (32 ∷ 32 ∷ point) ≡ ill
+  blank-line : outputOf fresh (10 ∷ []) ≡ ill
+  column-more : outputOf fresh (32 ∷ point) ≡ ill
+  columns-more : outputOf fresh (32 ∷ 32 ∷ point) ≡ ill
   -- "Bytes after the last line feed are a line too, refused by 1"
-  unended : outputOf (bytes "  1  0  0  0 1077936128 1082130432          0") ≡ ill
+  unended : outputOf fresh (bytes "  1  0  0  0 1077936128 1082130432          0") ≡ ill
   -- "one they refuse runs none and leaves every row"
-  in-between : outputOf (point ++ (10 ∷ []) ++ length ++ (32 ∷ [])) ≡ pointAnswer ++ ill ++ lengthAnswer ++ ill
+  in-between : outputOf fresh (point ++ (10 ∷ []) ++ length ++ (32 ∷ [])) ≡ pointAnswer ++ ill ++ lengthAnswer ++ ill
 
 pub corners : Corners
-unfolding Texts.bytes Responses.response Responses.answerText Stream.pushed Stream.byteFed Stream.feedOf Stream.endOf Run.commandOf Field.digits Field.decimal Field.valueFrom Field.value Field.leadingZero Field.number Field.glyph Field.lead Field.written Columns.fieldAt Columns.both Columns.numbersAt Columns.text CommandLine.numbers AnswerLine.answerLine Model.stepOf Model.applied Model.effectOf Model.taken Rows.fresh Rows.rowAt Rows.written Fields.among Fields.usesT Fields.usesA Fields.usesB Fields.usesU Fields.usesV Fields.usesW Results.givesPoint Results.givesDirection Results.givesNumber Results.givesWhole Results.directionOf Results.pointOf Results.aimOf Results.numberOf Results.wholeOf Refusals.unknown Refusals.noRow Refusals.takesDirections Refusals.badSource Refusals.outOfOrder Refusals.outOfRange Refusals.badValue Refusals.noRefraction Refusals.isNothing Refusals.noDirection Refusals.notFinite Refusals.first Refusals.refusals Refusals.refusalOf Comparisons.isFinite Normalizing.tryNormalize Normalizing.usable Products.length Products.lengthSquared Products.lengthRecip Products.dot Operators.mulNumber Root.root Root.rootUnits WholeRoot.wholeRoot Exact.sizeIn Exact.negative Ieee.round Ieee.neg Ieee.div Ieee.sub Ieee.le Ieee.lt Ieee.eq Ieee.add Ieee.sum Ieee.mul Ieee.ofBits Ieee.toBits
+unfolding Texts.bytes Responses.response Responses.answerText Stream.pushed Stream.byteFed Stream.feedOf Stream.endOf Fields.commandOf Field.digits Field.decimal Field.valueFrom Field.value Field.leadingZero Field.number Field.glyph Field.lead Field.written Columns.fieldAt Columns.both Columns.numbersAt Columns.text CommandLine.numbers AnswerLine.answerLine Model.stepOf Model.applied Effects.effectOf Effects.taken Effects.unlessRefused Effects.commandEffect Rows.fresh Rows.rowAt Rows.written Commands.table Commands.entryAt Commands.allows Results.directionOf Refusals.unknown Refusals.noRow Refusals.badSource Refusals.outOfOrder Refusals.outOfRange Refusals.badValue Refusals.noRefraction Refusals.isNothing Refusals.lacksDirection Refusals.noFactor Refusals.noDirection Refusals.notFinite Refusals.first Refusals.early Refusals.late Refusals.refusals Refusals.refusalOf Comparisons.isFinite Normalizing.tryNormalize Normalizing.usable Products.length Products.lengthSquared Products.lengthRecip Products.dot Operators.mulNumber Root.root Root.rootUnits WholeRoot.wholeRoot Exact.sizeIn Exact.negative Ieee.round Ieee.neg Ieee.div Ieee.sub Ieee.le Ieee.lt Ieee.eq Ieee.add Ieee.sum Ieee.mul Ieee.ofBits Ieee.toBits
 corners = record { listed = refl; empty = refl; blank-line = refl; column-more = refl; columns-more = refl; unended = refl; in-between = refl }

@@ -1,67 +1,103 @@
--- The bytes of an input, however they come (document 01, "Lines": "The program reads standard input and answers each line, refused ones included").
-use Prim.Native.Nat.{ℕ, _+_, _≤_}
-use mathlib.Core.Path.{_≡_}
+-- The bytes of an input, however they come (document 01, "Lines": "The program reads standard input and answers each line, refused ones included"), by any way
+-- of doing one command.
+use Prim.Native.Nat.{ℕ, zero, suc, _-_}
 use mathlib.Core.Bool.{cond}
 use mathlib.Core.List.{List, [], _∷_, _++_}
 use lib.Dec.{eqb, ltb}
 use lib.ListN.{length, take, drop}
-use Rattle.sheet.specs.Rows.{Model, modelOf}
-use Rattle.sheet.specs.Answers.{refused}
+use Rattle.commands.specs.declared.command.Command.{Command}
+use Rattle.commands.specs.Codes.{illFormed, lentTooShort}
+use Rattle.commands.specs.Answers.{refused}
+use Rattle.commands.specs.Model.{Stepped}
+use Rattle.lines.specs.CommandLine.{lineLength}
+use Rattle.lines.specs.AnswerLine.{answerLength}
 use Rattle.stream.specs.declared.Stream.{Stream}
+use Rattle.stream.specs.declared.feed.Taken.{Taken}
+use Rattle.stream.specs.declared.feed.Ended.{Ended}
 use Rattle.stream.specs.Responses.{lineResponse, answerText}
 
--- the rows, and the bytes since the last line feed: 46 of them are kept, since a longer line is no line of 45 all the same
-pub record Held : Type 0 where
-  pub rows : Model
+-- the sheet, and the bytes since the last line feed
+pub record Held (S : Type 0) : Type 0 where
+  pub state : S
   pub text : List ℕ
 
-abbrev pub held : Model → List ℕ → Held
-held m t = record { rows = m; text = t }
+abbrev pub held : {S : Type 0} → S → List ℕ → Held S
+held s t = record { state = s; text = t }
 
-abbrev pub heldOf : Stream → Held
-heldOf s = held (modelOf (s .sheet)) (take (s .len) (s .line))
+-- 46 bytes of a line are kept, since a longer one is no line of 45 all the same
+abbrev pub keptBytes : ℕ
+keptBytes = suc lineLength
 
 unfoldable pub pushed : List ℕ → ℕ → List ℕ
-pushed text b = cond (ltb (length text) 46) (text ++ (b ∷ [])) text
+pushed text b = cond (ltb (length text) keptBytes) (text ++ (b ∷ [])) text
 
 -- what is held after some bytes, and the answer lines that they gave
-pub record Fed : Type 0 where
-  pub held : Held
+pub record Fed (S : Type 0) : Type 0 where
+  pub held : Held S
   pub text : List ℕ
 
--- 10 is the line feed
-unfoldable pub byteFed : Held → ℕ → Fed
-byteFed h b =
-    let o = lineResponse (h .rows) (h .text) in
-    cond (eqb b 10)
-    (record { held = held (o .rows) []; text = answerText (o .answer) })
-    (record { held = held (h .rows) (pushed (h .text) b); text = [] })
+abbrev pub lineFeed : ℕ
+lineFeed = 10
 
-unfoldable pub feedOf : Held → List ℕ → Fed
-feedOf h [] = record { held = h; text = [] }
-feedOf h (b ∷ l) = let first = byteFed h b in let rest = feedOf (first .held) l in record { held = rest .held; text = first .text ++ rest .text }
+unfoldable pub byteFed : {S : Type 0} → (S → Command → Stepped S) → Held S → ℕ → Fed S
+byteFed step h b =
+    let o = lineResponse step (h .state) (h .text) in
+    cond (eqb b lineFeed)
+    (record { held = held (o .state) []; text = answerText (o .answer) })
+    (record { held = held (h .state) (pushed (h .text) b); text = [] })
 
+unfoldable pub feedOf : {S : Type 0} → (S → Command → Stepped S) → Held S → List ℕ → Fed S
+feedOf step h [] = record { held = h; text = [] }
+feedOf step h (b ∷ l) =
+    let first = byteFed step h b in
+    let rest = feedOf step (first .held) l in
+    record { held = rest .held; text = first .text ++ rest .text }
+
+-- ---- into lent bytes
+-- how many bytes are taken: each while an answer line has room
+unfoldable pub takenOf : ℕ → List ℕ → ℕ
+takenOf room [] = 0
+takenOf room (b ∷ l) = cond (ltb room answerLength) 0 (suc (takenOf (cond (eqb b lineFeed) (room - answerLength) room) l))
+
+-- what is held, how many bytes were taken and put, and the lent bytes afterwards: the answers, and past them what was there
+pub record FedInto (S : Type 0) : Type 0 where
+  pub held : Held S
+  pub took : ℕ
+  pub put : ℕ
+  pub out : List ℕ
+
+unfoldable pub fedInto : {S : Type 0} → (S → Command → Stepped S) → Held S → List ℕ → List ℕ → FedInto S
+fedInto step h bytes out =
+    let took = takenOf (length out) bytes in
+    let f = feedOf step h (take took bytes) in
+    record { held = f .held; took = took; put = length (f .text); out = f .text ++ drop (length (f .text)) out }
+
+-- ---- the program's
+-- the bytes that a stream holds
+abbrev pub textOf : Stream → List ℕ
+textOf s = take (s .len) (s .line)
+
+abbrev pub fedBy : List ℕ → Taken → List ℕ → FedInto (List ℕ)
+fedBy w r out = record { held = held w (textOf (r .stream)); took = r .took; put = r .put; out = out }
+
+-- ---- the end of an input
 -- "Bytes after the last line feed are a line too, refused by 1"
-unfoldable pub endOf : Held → List ℕ
-endOf h = cond (eqb (length (h .text)) 0) [] (answerText (refused 1))
+unfoldable pub endOf : List ℕ → List ℕ
+endOf text = cond (eqb (length text) 0) [] (answerText (refused illFormed))
 
--- the lent bytes after the end of the input, and how many of them are written: none where they are too few
-pub record Ended : Type 0 where
+-- the lent bytes after it, how many of them are written, and the refusal: none where no byte is left, 9 where the answer line has no room
+pub record EndedInto : Type 0 where
   pub bytes : List ℕ
   pub put : ℕ
+  pub refusal : ℕ
 
-unfoldable pub endedOf : Held → List ℕ → Ended
-endedOf h out =
-    let text = endOf h in
-    cond (ltb (length out) (length text))
-    (record { bytes = out; put = 0 })
-    (record { bytes = text ++ drop (length text) out; put = length text })
+unfoldable pub endedOf : List ℕ → List ℕ → EndedInto
+endedOf text out =
+    cond (eqb (length text) 0)
+    (record { bytes = out; put = 0; refusal = 0 })
+    (cond (ltb (length out) answerLength)
+    (record { bytes = out; put = 0; refusal = lentTooShort })
+    (record { bytes = endOf text ++ drop answerLength out; put = answerLength; refusal = illFormed }))
 
--- what feeding promises: the bytes that were taken are answered, and all are taken while an answer line has room; past the answers nothing is written
-pub record Feeds (h : Held) (bytes before after : List ℕ) (h′ : Held) (took put : ℕ) : Type 0 where
-  pub part : took ≤ length bytes
-  pub whole : put + 43 ≤ length before → took ≡ length bytes
-  pub now-held : h′ ≡ feedOf h (take took bytes) .held
-  pub count : put ≡ length (feedOf h (take took bytes) .text)
-  pub fits : put ≤ length before
-  pub text : after ≡ feedOf h (take took bytes) .text ++ drop put before
+abbrev pub endedBy : Ended → List ℕ → EndedInto
+endedBy r out = record { bytes = out; put = r .put; refusal = r .refusal }

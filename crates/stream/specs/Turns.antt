@@ -1,45 +1,49 @@
 -- What functions of this crate promise each other: what the next bytes of an input come to, and an answer line written at a place of the lent bytes.
-use Prim.Native.Nat.{ℕ, _+_, _≤_, _<_}
+use Prim.Native.Nat.{ℕ, _+_, _≤_}
 use mathlib.Core.Path.{_≡_}
-use mathlib.Core.List.{List, [], _++_}
-use mathlib.Core.Option.{none}
+use mathlib.Core.List.{List, [], _∷_, _++_}
+use mathlib.Core.Option.{none, some}
 use lib.ListN.{length, getD, take, drop}
-use Rattle.sheet.specs.declared.command.Command.{Command}
-use Rattle.sheet.specs.Rows.{Model}
-use Rattle.sheet.specs.Answers.{ModelAnswer}
-use Rattle.sheet.specs.Model.{stepOf}
-use Rattle.sheet.specs.Run.{commandOf}
+use Rattle.commands.specs.Answers.{ModelAnswer}
 use Rattle.lines.specs.CommandLine.{numbers}
+use Rattle.lines.specs.LineMeaning.{NoLineFeed}
+use Rattle.lines.specs.AnswerLine.{answerLength}
 use Rattle.stream.specs.declared.hear.Heard.{Heard}
 use Rattle.stream.specs.declared.hear.Heard.the-variants.{Run, Ill, Byte}
 use Rattle.stream.specs.Responses.{answerText}
-use Rattle.stream.specs.Stream.{held, Fed, feedOf}
+use Rattle.stream.specs.Stream.{lineFeed}
 
 -- the lent bytes with an answer line over the 43 from `at` on
 abbrev pub toldAt : ℕ → ModelAnswer → List ℕ → List ℕ
-toldAt at x out = take at out ++ (answerText x ++ drop (at + 43) out)
+toldAt at x out = take at out ++ (answerText x ++ drop (at + answerLength) out)
 
--- what a line that gives a command leaves and writes
-abbrev pub ranOf : Model → Command → Fed
-ranOf m c = let o = stepOf m c in record { held = held (o .rows) []; text = answerText (o .answer) }
+-- the answer of six numbers
+abbrev pub answerFrom : List ℕ → ModelAnswer
+answerFrom l = record { refusal = getD l 0 0; row = getD l 1 0; kind = getD l 2 0; x = getD l 3 0; y = getD l 4 0; z = getD l 5 0 }
 
--- the next bytes, took of them, end a line that gives the command c, whatever the rows are
-pub record IsRun (bytes : List ℕ) (i : ℕ) (text : List ℕ) (c : Command) (took : ℕ) : Type 0 where
-  pub some-byte : 0 < took
+-- the next bytes, took of them, are the rest of a line and its line feed
+pub record Ends (bytes : List ℕ) (i took : ℕ) (rest : List ℕ) : Type 0 where
   pub part : i + took ≤ length bytes
-  pub ran : (m : Model) → feedOf (held m text) (take took (drop i bytes)) ≡ ranOf m c
+  pub no-line-feed : NoLineFeed rest
+  pub next : take took (drop i bytes) ≡ rest ++ (lineFeed ∷ [])
+
+-- they end a line that gives the numbers f
+pub record IsRun (bytes : List ℕ) (i : ℕ) (text f : List ℕ) (took : ℕ) : Type 0 where
+  pub rest : List ℕ
+  pub ends : Ends bytes i took rest
+  pub line : numbers (text ++ rest) ≡ some f
 
 -- the next byte ends an ill formed line
 pub record IsIll (bytes : List ℕ) (i : ℕ) (text : List ℕ) : Type 0 where
-  pub line-feed : getD bytes i 0 ≡ 10
+  pub line-feed : getD bytes i 0 ≡ lineFeed
   pub no-numbers : numbers text ≡ none
 
 -- the next byte ends no line
 pub record IsByte (bytes : List ℕ) (i b : ℕ) : Type 0 where
   pub byte : b ≡ getD bytes i 0
-  pub other : b ≡ 10 → ⊥
+  pub other : b ≡ lineFeed → ⊥
 
 abbrev pub Hears : List ℕ → ℕ → List ℕ → List ℕ → Heard → Type 0
-Hears bytes i text f (Run took) = IsRun bytes i text (commandOf f) took
+Hears bytes i text f (Run took) = IsRun bytes i text f took
 Hears bytes i text f Ill = IsIll bytes i text
 Hears bytes i text f (Byte b) = IsByte bytes i b

@@ -2,25 +2,28 @@
 ghost use mathlib.Core.Path.{_≡_};
 ghost use mathlib.Core.List.{[]};
 ghost use Prim.Native.Nat.{_≤_, min};
-ghost use Rattle.sheet.specs.Rows as Rows;
-ghost use Rattle.stream.specs.Stream.{held, heldOf, Feeds, endedOf};
+ghost use Rattle.sheet.specs.Words.{lentStep};
+ghost use Rattle.stream.specs.Stream.{textOf, held, fedBy, fedInto, endedBy, endedOf};
 use crate::Stream;
 use crate::hear::Heard;
 use crate::hear::hear;
 use crate::tell::tell;
-use crate::tell::tell_row;
-use sheet::command::Answer;
-use sheet::command::command_at;
-use sheet::effects::Action;
-use sheet::rows::Row;
-use sheet::rows::Sheet;
-use sheet::step::action_of;
+use commands::codes::ILL_FORMED;
+use commands::codes::LENT_TOO_SHORT;
+use lines::answer_line::ANSWER_LENGTH;
+use sheet::step::step_at;
 
 // The stream afterwards, how many bytes were taken, and how many put.
 pub struct Taken {
     pub stream: Stream,
     pub took: usize,
     pub put: usize,
+}
+
+// How many bytes were put, and the refusal: 1 for the line that has not ended, 9 where its answer line has no room, 0 where no byte is left.
+pub struct Ended {
+    pub put: usize,
+    pub refusal: u32,
 }
 
 // The bytes of a line that are held: 46 at most.
@@ -31,33 +34,26 @@ fn kept(len: usize) -> usize
 }
 
 impl Stream {
-    // All rows empty, and no bytes.
+    // No bytes.
     pub fn fresh() -> Stream
-        ensures { λ r. ⌜ heldOf r ≡ held Rows.fresh [] ⌝ }
+        ensures { λ r. ⌜ textOf r ≡ [] ⌝ }
     {
-        let sheet = Sheet::fresh();
         let line = [0u8; 46];
-        Stream {
-            sheet: sheet,
-            line: line,
-            len: 0,
-        }
+        Stream { line: line, len: 0 }
     }
 
-    // Takes bytes in turn while an answer line has room. The loop owns the sheet and writes rows in place: no line copies the sheet.
-    pub fn feed(self, bytes: &[u8], out: &mut [u8]) -> Taken
-        ensures { λ r. ⌜ Feeds (heldOf self) (now (bytes .entry)) (now (out .entry)) (now (out .exit)) (heldOf (r .stream)) (r .took) (r .put) ⌝ }
+    // Takes bytes in turn while an answer line has room, and runs the commands of the lines that end on the sheet that lies in the words.
+    pub fn feed(self, state: &mut [u32], bytes: &[u8], out: &mut [u8]) -> Taken
+        ensures { λ r. ⌜ fedBy (now (state .exit)) r (now (out .exit)) ≡ fedInto lentStep (held (now (state .entry)) (textOf self)) (now (bytes .entry)) (now (out .entry)) ⌝ }
     {
-        let mut sheet = self.sheet;
         let mut line = self.line;
         let mut len = kept(self.len);
         let mut put: usize = 0;
         let mut i: usize = 0;
         while i < bytes.len() {
-            if out.len() - put < 43 {
+            if out.len() - put < ANSWER_LENGTH {
                 return Taken {
                     stream: Stream {
-                        sheet: sheet,
                         line: line,
                         len: len,
                     },
@@ -66,45 +62,20 @@ impl Stream {
                 };
             }
             let mut f = [0u32; 7];
+            let mut six = [0u32; 6];
             match hear(bytes, i, &line[..len], &mut f) {
                 Heard::Run(took) => {
-                    let c = command_at(&f, 0);
-                    // A row above 63 is refused where it is used and not read where it is not: any row may stand in its place.
-                    let a = (c.a % 64) as usize;
-                    let b = (c.b % 64) as usize;
-                    let row_a = sheet.rows[a];
-                    let row_b = sheet.rows[b];
-                    let at = put;
-                    put += 43;
+                    step_at(state, &f, 0, &mut six, 0);
+                    tell(out, put, &six);
+                    put += ANSWER_LENGTH;
                     i += took;
                     len = 0;
-                    match action_of(c, row_a, row_b) {
-                        Action::Tell(x) => {
-                            tell(out, at, x);
-                            continue;
-                        }
-                        Action::Put { kind, v } => {
-                            let t = c.t as usize;
-                            let row = Row { kind: kind, v: v };
-                            sheet.rows[t] = row;
-                            tell_row(out, at, c.t, kind, v);
-                            continue;
-                        }
-                        Action::PutTwo { v, w } => {
-                            let t = c.t as usize;
-                            let row = Row { kind: 2, v: v };
-                            sheet.rows[t] = row;
-                            let n = t + 1;
-                            let next = Row { kind: 2, v: w };
-                            sheet.rows[n] = next;
-                            tell_row(out, at, c.t, 2, v);
-                            continue;
-                        }
-                    }
+                    continue;
                 }
                 Heard::Ill => {
-                    tell(out, put, Answer::Refused(1));
-                    put += 43;
+                    six[0] = ILL_FORMED;
+                    tell(out, put, &six);
+                    put += ANSWER_LENGTH;
                     i += 1;
                     len = 0;
                     continue;
@@ -123,7 +94,6 @@ impl Stream {
         }
         Taken {
             stream: Stream {
-                sheet: sheet,
                 line: line,
                 len: len,
             },
@@ -132,18 +102,24 @@ impl Stream {
         }
     }
 
-    // The end of the input: the answer line of the bytes that are left, or no byte. Gives the number of bytes put.
-    pub fn ended(self, out: &mut [u8]) -> usize
-        ensures { λ r. ⌜ r ≡ endedOf (heldOf self) (now (out .entry)) .put ⌝ }
-        ensures { λ _. ⌜ now (out .exit) ≡ endedOf (heldOf self) (now (out .entry)) .bytes ⌝ }
+    // The end of the input: the answer line of the bytes that are left, or no byte.
+    pub fn ended(self, out: &mut [u8]) -> Ended
+        ensures { λ r. ⌜ endedBy r (now (out .exit)) ≡ endedOf (textOf self) (now (out .entry)) ⌝ }
     {
         if self.len == 0 {
-            return 0;
+            return Ended { put: 0, refusal: 0 };
         }
-        if out.len() < 43 {
-            return 0;
+        if out.len() < ANSWER_LENGTH {
+            return Ended {
+                put: 0,
+                refusal: LENT_TOO_SHORT,
+            };
         }
-        tell(out, 0, Answer::Refused(1));
-        43
+        let six = [ILL_FORMED, 0, 0, 0, 0, 0];
+        tell(out, 0, &six);
+        Ended {
+            put: ANSWER_LENGTH,
+            refusal: ILL_FORMED,
+        }
     }
 }

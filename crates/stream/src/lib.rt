@@ -4,11 +4,8 @@ mod hear;
 pub mod respond;
 mod tell;
 
-use sheet::rows::Sheet;
-
-// The sheet, and the bytes of a line that has not ended: at most 46, so that a longer line is told from one of 45.
+// The bytes of a line that has not ended: at most 46, so that a longer line is told from one of 45. The sheet lies in words that the caller lends.
 pub struct Stream {
-    pub sheet: Sheet,
     pub line: [u8; 46],
     pub len: usize,
 }

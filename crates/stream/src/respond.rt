@@ -1,58 +1,29 @@
 // One line on a sheet: the command that its fields give, and its answer line.
 ghost use mathlib.Core.Path.{_≡_};
-ghost use Rattle.sheet.specs.Rows.{modelOf};
-ghost use Rattle.sheet.specs.Answers.{answerOf};
-ghost use Rattle.stream.specs.Responses.{respondedBy, respondOf};
-use crate::tell::put_answer;
+ghost use Rattle.sheet.specs.Words.{lentStep};
+ghost use Rattle.stream.specs.Responses.{responded, respondOf};
+use crate::tell::tell;
+use commands::codes::ILL_FORMED;
+use commands::codes::LENT_TOO_SHORT;
+use lines::answer_line::ANSWER_LENGTH;
 use lines::command_line::fields;
-use sheet::command::Answer;
-use sheet::command::command_at;
-use sheet::rows::Sheet;
+use sheet::step::step_at;
 
-// The sheet after a line, and the number of the line's refusal, 0 where it is none: 9 where fewer than 43 bytes are lent.
-pub struct Told {
-    pub sheet: Sheet,
-    pub refusal: u32,
-}
-
-// The number of the answer's refusal, 0 where it is none.
-fn refusal_of(x: Answer) -> u32
-    ensures { λ r. ⌜ r ≡ answerOf x .refusal ⌝ }
+// Runs the command of a line on the sheet that lies in the words, and writes its answer line over the first 43 bytes of out. Gives the number of the line's refusal, 0 where
+// it is none: 9 where fewer than 43 bytes are lent, and then nothing is run or written.
+pub fn respond(state: &mut [u32], line: &[u8], out: &mut [u8]) -> u32
+    ensures { λ r. ⌜ responded (now (state .exit)) r (now (out .exit)) ≡ respondOf lentStep (now (state .entry)) (now (line .entry)) (now (out .entry)) ⌝ }
 {
-    match x {
-        Answer::Refused(k) => k,
-        Answer::Shown { row, kind, v } => 0,
-        Answer::Number(n) => 0,
-        Answer::Whole(n) => 0,
-    }
-}
-
-// Runs the command of a line, and writes its answer line over the first 43 bytes of out.
-pub fn respond(sheet: Sheet, line: &[u8], out: &mut [u8]) -> Told
-    ensures { λ r. ⌜ respondedBy r (now (out .exit)) ≡ respondOf (modelOf sheet) (now (line .entry)) (now (out .entry)) ⌝ }
-{
-    if out.len() < 43 {
-        return Told {
-            sheet: sheet,
-            refusal: 9,
-        };
+    if out.len() < ANSWER_LENGTH {
+        return LENT_TOO_SHORT;
     }
     let mut f = [0u32; 7];
+    let mut six = [0u32; 6];
     if fields(line, &mut f) {
-        let o = sheet.step(command_at(&f, 0));
-        let x = o.answer;
-        put_answer(out, x);
-        let s = o.sheet;
-        let k = refusal_of(x);
-        Told {
-            sheet: s,
-            refusal: k,
-        }
+        step_at(state, &f, 0, &mut six, 0);
     } else {
-        put_answer(out, Answer::Refused(1));
-        Told {
-            sheet: sheet,
-            refusal: 1,
-        }
+        six[0] = ILL_FORMED;
     }
+    tell(out, 0, &six);
+    six[0]
 }

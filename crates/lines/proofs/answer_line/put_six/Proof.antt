@@ -28,6 +28,9 @@ put-field-requires-5 c κs = search needs
 put-field-requires-6 : tie.Need-put-field-requires-6
 put-field-requires-6 c κs = search needs
 
+sub-out : tie.Need-sub-out
+sub-out c = search needs
+
 slice-write-out : tie.Need-slice-write-out
 slice-write-out c = omega arith
 
@@ -57,6 +60,7 @@ put-six-spec =
     put-field-requires-4
     put-field-requires-5
     put-field-requires-6
+    sub-out
     slice-write-out
     same-length
     returns-2)

@@ -1,9 +1,13 @@
 -- `stream::respond::respond` meets its contract. Assumes nothing.
-use mathlib.Core.Path.{refl, sym, ap, _∙_}
-use Rattle.sheet.specs.Answers.{answerOf}
-use Rattle.sheet.specs.Model.{stepOf}
+use mathlib.Core.Path.{_≡_, refl, sym, ap, _∙_}
+use mathlib.Core.Logic.{inl, inr}
+use lib.ListN.{length}
+use Rattle.commands.specs.Model.{stepped}
+use Rattle.sheet.specs.Words.{lentStep}
+use Rattle.stream.specs.Responses.{lineResponse}
+use Rattle.stream.specs.Turns.{answerFrom}
 use Rattle.stream.proofs.HearLaws.{read-all, read-none}
-use Rattle.stream.proofs.ResponseLaws.{respond-short, respond-ill, respond-ran}
+use Rattle.stream.proofs.ResponseLaws.{respond-short, respond-told, answer-ill, answer-ran}
 use borrow.Author.Needs.{needs}
 use Rattle.stream.proofs.respond.respond.Statement.{statement}
 use Rattle.stream.proofs.respond.respond.Tie as tie
@@ -11,60 +15,49 @@ use Rattle.stream.proofs.respond.respond.Tie as tie
 returns : tie.Need-returns
 returns c = respond-short _ _ _ (c .if1 .taken)
 
-slice-aggregate-fields : tie.Need-slice-aggregate-fields
-slice-aggregate-fields c = search needs
+six-long : (c : tie.Joined2) → length (c .if2 .six) ≡ 6
+six-long c = elim (c .if2 .came) [ inl p ↦ ap length (p .9) ∙ p .4 .kept .1 .1 .1 .0 | inr p ↦ ap length (p .2) ]
 
-fields-requires : tie.Need-fields-requires
-fields-requires c κs = search needs
+state-long : (c : tie.Joined2) → length (c .if2 .state) ≡ length (c .before .before .before .before .before .before .before .before .args .state .now)
+state-long c = elim (c .if2 .came) [ inl p ↦ ap length (p .8) ∙ p .4 .kept .0 | inr p ↦ ap length (p .1) ]
 
-slice-aggregate-command-at : tie.Need-slice-aggregate-command-at
-slice-aggregate-command-at c = search needs
+answered : (c : tie.Joined2) → stepped (c .if2 .state) (answerFrom (c .if2 .six)) ≡ lineResponse lentStep (c .before .before .before .before .before .before .before .before .args .state .now) (c .before .before .before .before .before .before .before .before .args .line .now)
+answered c =
+    let start = c .before .before .before .before .before .before .before .before in
+    let read = c .before .before .fields .ensures in
+    elim (c .if2 .came) [
+      | inl p ↦
+          rw (p .8, p .9)
+          (answer-ran (start .args .state .now) (start .args .line .now) _ _ _ _ _ (read-all _ _ refl _ (sym (p .0 .taken) ∙ read .0) (read .1)) refl (p .4 .ensures))
+      | inr p ↦ rw (p .1, p .2) (answer-ill (start .args .state .now) (start .args .line .now) (read-none _ _ refl (sym (p .0 .left) ∙ read .0)))
+    ]
 
-command-at-requires : tie.Need-command-at-requires
-command-at-requires c κs = search needs
+slice-aggregate-tell : tie.Need-slice-aggregate-tell
+slice-aggregate-tell c = sym (six-long (c .before .before))
 
-step-requires : tie.Need-step-requires
-step-requires c κs = search needs
-
-put-answer-requires : tie.Need-put-answer-requires
-put-answer-requires c κs = search needs
-
-refusal-of-requires : tie.Need-refusal-of-requires
-refusal-of-requires c κs = search needs
-
-put-answer-requires-2 : tie.Need-put-answer-requires-2
-put-answer-requires-2 c κs = search needs
+tell-requires : tie.Need-tell-requires
+tell-requires c κs = let n = six-long (c .before .before) in search needs
 
 same-length : tie.Need-same-length
-same-length c = search needs
+same-length c = state-long (c .before .before .before .before .before)
 
 returns-2 : tie.Need-returns-2
-returns-2 c =
-    respond-ran _ _ _ _ (c .before .before .before .before .before .before .before .before .before .before .before .before .before .if1 .left) _ (c .before .before .before .before .before .before .step .result) _ (read-all _ _ refl _ (sym (c .before .before .before .before .before .before .before .before .before .if2 .taken) ∙ c .before .before .before .before .before .before .before .before .before .before .before .fields .ensures .0) (c .before .before .before .before .before .before .before .before .before .before .before .fields .ensures .1))
-    (c .before .before .before .before .before .before .step .ensures ∙ ap (stepOf _) (c .before .before .before .before .before .before .before .command-at .ensures)) (c .refusal-of .ensures) (c .before .before .before .before .put-answer .ensures)
-
-same-length-2 : tie.Need-same-length-2
-same-length-2 c = search needs
-
-returns-3 : tie.Need-returns-3
-unfolding answerOf
-returns-3 c =
-    respond-ill _ _ _ _ (c .before .before .before .before .before .before .before .before .if1 .left) (read-none _ _ refl (sym (c .before .before .before .before .if2 .left) ∙ c .before .before .before .before .before .before .fields .ensures .0)) (c .before .before .put-answer2 .ensures)
+returns-2 c = respond-told _ _ _ _ (c .before .before .before .before .before .if2 .six) _ (c .before .before .before .before .before .before .before .before .before .if1 .left) (answered (c .before .before .before .before .before)) (c .before .before .tell .ensures)
 
 pub respond-spec : {M : Type 1} → statement M
 respond-spec =
     tie.close
     (tie.spec
     returns
-    slice-aggregate-fields
-    fields-requires
-    slice-aggregate-command-at
-    command-at-requires
-    step-requires
-    put-answer-requires
-    refusal-of-requires
-    put-answer-requires-2
+    (λ c. search needs)
+    (λ c κs. search needs)
+    (λ c. search needs)
+    (λ c. search needs)
+    (λ c κs. search needs)
+    (λ c. search needs)
+    slice-aggregate-tell
+    tell-requires
+    (λ c. search needs)
     same-length
-    returns-2
-    same-length-2
-    returns-3)
+    (λ c. search needs)
+    returns-2)

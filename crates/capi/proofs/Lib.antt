@@ -1,2 +1,0 @@
--- The laws and proofs of crate capi, file by file.
-mod RunLaws

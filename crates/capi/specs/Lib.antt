@@ -1,2 +1,0 @@
--- The definitions of crate capi, file by file.
-pub mod Lists

@@ -1,0 +1,10 @@
+-- The laws and proofs of crate commands, file by file.
+mod CommandSetLaws
+pub mod FirstLaws
+pub mod LateLaws
+pub mod ConditionLaws
+pub mod DirectionOfLaws
+pub mod table
+pub mod CommandLaws
+pub mod claim
+pub mod ClaimLaws

@@ -1,0 +1,66 @@
+-- Rows that are written and read again, and sheets whose rows are all as specs/Claim promises. Assumes nothing.
+use Prim.Native.Nat.{ℕ, zero, suc, _<_}
+use native.Mathlib.Omega.{arith}
+use mathlib.Core.Path.{_≡_, refl, subst, sym, _∙_}
+use mathlib.Core.List.{List, [], _∷_}
+use lib.Dec.{lit≤}
+use lib.ListN.{length, getD, set, replicate, length-set, length-replicate}
+use lib.Seq.{getD-set-same, getD-set-other}
+use lib.Ieee.{ofBits}
+use Rattle.vector.specs.declared.vec3.Vec3.{Vec3}
+use Rattle.vector.specs.Vectors.{ZERO}
+use Rattle.vector.specs.ExactVectors.{F32Vec, FiniteVec, Direction}
+use Rattle.vector.proofs.VectorFits.{zero-vector}
+use Rattle.commands.specs.Codes.{rowCount}
+use Rattle.commands.specs.Rows.{ModelRow, State, empty, point, direction, fresh, rowAt, written}
+use Rattle.commands.specs.Model.{withRows}
+use Rattle.commands.specs.Claim.{SoundRow, Sound}
+
+-- ---- the rows that commands write
+zero-finite : FiniteVec ZERO
+unfolding ofBits
+zero-finite = record { finite-x = tt; finite-y = tt; finite-z = tt }
+
+pub empty-row : SoundRow empty
+empty-row = record { known-kind = lit≤ tt; zeros = λ _. refl; values = zero-vector; numbers-finite = zero-finite; unit = λ e. absurd (omega (arith, e)) }
+
+pub point-row : (v : Vec3) → F32Vec v → FiniteVec v → SoundRow (point v)
+point-row v f n = record { known-kind = lit≤ tt; zeros = λ e. absurd (omega (arith, e)); values = f; numbers-finite = n; unit = λ e. absurd (omega (arith, e)) }
+
+pub direction-row : (v : Vec3) → Direction v → SoundRow (direction v)
+direction-row v d = record { known-kind = lit≤ tt; zeros = λ e. absurd (omega (arith, e)); values = d .values; numbers-finite = d .numbers; unit = λ _. d }
+
+-- ---- written and read
+pub length-written : (m : List ModelRow) (i : ℕ) (r : ModelRow) → length (written m i r) ≡ length m
+unfolding written
+length-written m i r = length-set m i r
+
+pub read-same : (m : List ModelRow) (i : ℕ) (r : ModelRow) → i < length m → rowAt (written m i r) i ≡ r
+unfolding rowAt written
+read-same m i r h = getD-set-same m i r empty h
+
+pub read-other : (m : List ModelRow) (i j : ℕ) (r : ModelRow) → (j ≡ i → ⊥) → rowAt (written m i r) j ≡ rowAt m j
+unfolding rowAt written
+read-other m i j r h = getD-set-other m i j r empty h
+
+-- ---- a property of each element survives a `set`
+all-set : {A : Type 0} (P : A → Type 0) (l : List A) (i : ℕ) (a d : A) → ((j : ℕ) → P (getD l j d)) → P a → (j : ℕ) → P (getD (set l i a) j d)
+all-set P [] i a d h p j = h j
+all-set P (x ∷ l) zero a d h p zero = p
+all-set P (x ∷ l) zero a d h p (suc j) = h (suc j)
+all-set P (x ∷ l) (suc i) a d h p zero = h zero
+all-set P (x ∷ l) (suc i) a d h p (suc j) = all-set P l i a d (λ k. h (suc k)) p j
+
+all-replicate : {A : Type 0} (n i : ℕ) (a : A) → getD (replicate n a) i a ≡ a
+all-replicate zero i a = refl
+all-replicate (suc n) zero a = refl
+all-replicate (suc n) (suc i) a = all-replicate n i a
+
+-- ---- sheets
+pub fresh-sound : Sound fresh
+unfolding fresh rowAt
+fresh-sound = record { count = length-replicate rowCount empty; each-row = λ i. subst SoundRow (sym (all-replicate rowCount i empty)) empty-row }
+
+pub written-sound : (s : State) (i : ℕ) (r : ModelRow) → Sound s → SoundRow r → Sound (withRows s (written (s .rows) i r))
+unfolding rowAt written
+written-sound s i r h p = record { count = length-set (s .rows) i r ∙ h .count; each-row = all-set SoundRow (s .rows) i r empty (h .each-row) p }

@@ -1,0 +1,113 @@
+-- One command: a refusal changes no row, a command that is done leaves sound rows, and what specs/Claim demands of each command. Assumes nothing.
+use Prim.Native.Nat.{ℕ, zero, suc, _+_, _<_}
+use native.Mathlib.Omega.{arith}
+use mathlib.Core.Path.{_≡_, refl, sym, ap, _∙_, subst}
+use lib.ListN.{length}
+use Rattle.commands.specs.declared.command.Command.{Command}
+use Rattle.commands.specs.Rows.{ModelRow, State, direction, rowAt, written}
+use Rattle.commands.specs.Answers.{refused}
+use Rattle.commands.specs.Commands.{entryAt}
+use Rattle.commands.specs.Effects.{ModelEffect, Puts, PutsTwo, Tells, effectOf}
+use Rattle.commands.specs.Model.{Stepped, stepped, withRows, applied, stepOf}
+use Rattle.commands.specs.Claim.{Sound, SoundRow, sourcesAt, refusalAt, Orthogonal, Well}
+use Rattle.commands.proofs.ConditionLaws.{Done, done}
+use Rattle.commands.proofs.CommandLaws.{InRange, target-in-range, effect-done, effect-refused}
+use Rattle.commands.proofs.claim.RefusalLaws.{Directed, directed}
+use Rattle.commands.proofs.claim.RowLaws.{written-sound, length-written, read-same, read-other}
+use Rattle.commands.proofs.claim.SourceLaws.{Held, held}
+use Rattle.commands.proofs.claim.PairRows.{PairTaken, firstTaken, secondTaken, effect-24, pair-taken}
+use Rattle.commands.proofs.claim.AssertedLaws.{asserted}
+use Rattle.commands.proofs.claim.EffectLaws.{SoundEffect, effect-sound}
+
+-- ---- the two ways that a command goes
+step-done : (s : State) (c : Command) → refusalAt s c ≡ 0 → stepOf s c ≡ applied s (c .t) (effectOf (entryAt (c .number) .result (sourcesAt s c)))
+unfolding stepOf
+step-done s c e = ap (applied s (c .t)) (effect-done c _ _ e)
+
+step-refused : (s : State) (c : Command) (k : ℕ) → refusalAt s c ≡ suc k → stepOf s c ≡ stepped s (refused (suc k))
+unfolding stepOf applied
+step-refused s c k e = ap (applied s (c .t)) (effect-refused c _ _ k e)
+
+-- ---- what an effect leaves
+applied-sound : (s : State) (t : ℕ) (e : ModelEffect) → Sound s → SoundEffect e → Sound (applied s t e .state)
+unfolding applied
+applied-sound s t (Puts r) h p = written-sound s t r h p
+applied-sound s t (PutsTwo r q) h p = written-sound (withRows s (written (s .rows) t r)) (t + 1) q (written-sound s t r h (p .0)) (p .1)
+applied-sound s t (Tells x) h p = h
+
+applied-answers : (s : State) (t : ℕ) (e : ModelEffect) → SoundEffect e → applied s t e .answer .refusal ≡ 0
+unfolding applied
+applied-answers s t (Puts r) p = refl
+applied-answers s t (PutsTwo r q) p = refl
+applied-answers s t (Tells x) p = p
+
+-- both rows of 24, read right after it
+two-rows :
+    (s : State) (t : ℕ) (p q : ModelRow) → t + 1 < length (s .rows)
+    → (rowAt (applied s t (PutsTwo p q) .state .rows) t ≡ p) × (rowAt (applied s t (PutsTwo p q) .state .rows) (t + 1) ≡ q)
+unfolding applied
+two-rows s t p q h = (
+  read-other (written (s .rows) t p) (t + 1) t q (λ e. omega (arith, e)) ∙ read-same (s .rows) t p (omega arith),
+  read-same (written (s .rows) t p) (t + 1) q (subst (λ (k : ℕ). t + 1 < k) (sym (length-written (s .rows) t p)) h),
+)
+
+module _ (s : State) (c : Command) (sound : Sound s) where
+  row-a : SoundRow (rowAt (s .rows) (c .a))
+  row-a = sound .each-row (c .a)
+
+  row-b : SoundRow (rowAt (s .rows) (c .b))
+  row-b = sound .each-row (c .b)
+
+  module _ (e : refusalAt s c ≡ 0) where
+    is-done : Done c (sourcesAt s c)
+    is-done = done c (sourcesAt s c) e
+
+    done-effect : SoundEffect (effectOf (entryAt (c .number) .result (sourcesAt s c)))
+    done-effect = effect-sound c _ _ row-a row-b is-done
+
+    done-sound : Sound (stepOf s c .state)
+    done-sound = subst (λ (o : Stepped State). Sound (o .state)) (sym (step-done s c e)) (applied-sound s (c .t) _ sound done-effect)
+
+    done-answers : stepOf s c .answer .refusal ≡ 0
+    done-answers = ap (λ (o : Stepped State). o .answer .refusal) (step-done s c e) ∙ applied-answers s (c .t) _ done-effect
+
+    done-pair : c .number ≡ 24 → PairTaken (sourcesAt s c .a .numbers) (firstTaken (sourcesAt s c)) (secondTaken (sourcesAt s c))
+    done-pair is =
+        let there = subst (λ (n : ℕ). Held n (entryAt n) (sourcesAt s c)) is (held c _ _ row-a row-b is-done) in
+        let seven = subst (λ (n : ℕ). Directed n (sourcesAt s c)) is (directed (c .number) (sourcesAt s c) (is-done .directed)) in
+        pair-taken (sourcesAt s c) there (seven .aims)
+
+    done-orthogonal : c .number ≡ 24 → Orthogonal s (stepOf s c .state) c
+    done-orthogonal is =
+        let first = direction (firstTaken (sourcesAt s c)) in
+        let second = direction (secondTaken (sourcesAt s c)) in
+        let written-two = effect-24 c (sourcesAt s c) is in
+        let room = subst (InRange (c .t)) (effect-done c _ _ e ∙ written-two) (target-in-range c _ _) in
+        let rows = two-rows s (c .t) first second (omega (arith, sound .count, room)) in
+        let step = step-done s c e ∙ ap (applied s (c .t)) written-two in
+        let at-t = ap (λ (o : Stepped State). rowAt (o .state .rows) (c .t) .numbers) step ∙ ap (λ (r : ModelRow). r .numbers) (rows .0) in
+        let after-t = ap (λ (o : Stepped State). rowAt (o .state .rows) (c .t + 1) .numbers) step ∙ ap (λ (r : ModelRow). r .numbers) (rows .1) in
+        let pair = done-pair is in
+        record {
+          with-first = rw at-t (pair .with-first);
+          with-second = rw after-t (pair .with-second);
+          with-each-other = rw (at-t, after-t) (pair .with-each-other);
+        }
+
+  pub step-sound : Sound (stepOf s c .state)
+  step-sound = go (refusalAt s c) refl
+    where
+      go : (k : ℕ) → refusalAt s c ≡ k → Sound (stepOf s c .state)
+      go zero e = done-sound e
+      go (suc k) e = subst (λ (o : Stepped State). Sound (o .state)) (sym (step-refused s c k e)) sound
+
+  step-told : stepOf s c .answer .refusal ≡ refusalAt s c
+  step-told = go (refusalAt s c) refl
+    where
+      go : (k : ℕ) → refusalAt s c ≡ k → stepOf s c .answer .refusal ≡ k
+      go zero e = done-answers e
+      go (suc k) e = ap (λ (o : Stepped State). o .answer .refusal) (step-refused s c k e)
+
+  pub step-well : Well s c
+  step-well =
+      record { told = step-told; kept = step-refused s c; orthogonal = done-orthogonal; asserted = λ e. asserted c _ _ row-a row-b (is-done e) }

@@ -1,0 +1,45 @@
+-- `commands::effects::directions::directions` meets its contract. Assumes nothing.
+use Rattle.commands.specs.Refusals.{isNothing, lacksDirection, notFinite}
+use Rattle.commands.specs.Answers.{answerOf}
+use Rattle.commands.specs.Effects.{effectBy, effectOf, taken, unless, settled}
+use borrow.Author.Needs.{needs}
+use Rattle.commands.proofs.effects.directions.directions.Statement.{statement}
+use Rattle.commands.proofs.effects.directions.directions.Tie as tie
+
+returns : tie.Need-returns
+unfolding effectBy settled unless lacksDirection isNothing answerOf
+returns c = simp (c .enum-told .given .1, ← c .before .before .direction-of .ensures)
+
+returns-2 : tie.Need-returns-2
+unfolding effectBy settled unless lacksDirection isNothing answerOf
+returns-2 c =
+    simp (
+      c .enum-told2 .given .1,
+      ← c .before .before .direction-of2 .ensures,
+      c .before .before .before .before .d .given .1,
+      ← c .before .before .before .before .before .before .direction-of .ensures,
+    )
+
+returns-3 : tie.Need-returns-3
+unfolding effectBy settled unless lacksDirection notFinite isNothing effectOf taken
+returns-3 c =
+    simp (
+      c .before .e .given .1,
+      ← c .before .before .before .direction-of2 .ensures,
+      c .before .before .before .before .before .d .given .1,
+      ← c .before .before .before .before .before .before .before .direction-of .ensures,
+    )
+
+pub directions-spec : {M : Type 1} → statement M
+directions-spec =
+    tie.close
+    (tie.spec
+    (λ c κs. search needs)
+    (λ c. search needs)
+    (λ c. search needs)
+    returns
+    (λ c κs. search needs)
+    (λ c. search needs)
+    (λ c. search needs)
+    returns-2
+    returns-3)

@@ -1,0 +1,89 @@
+-- What shall hold of a row of the table of commands (specs/Commands): where it writes, which sources it does not read, and that its vectors have f32 numbers.
+-- Assumes nothing.
+use Prim.Native.Nat.{ℕ}
+use mathlib.Core.Path.{_≡_, refl}
+use mathlib.Core.Bool.{Bool, true, false}
+use lib.Ieee.{Float}
+use Rattle.scalar.proofs.FitsLaws.{Fits32}
+use Rattle.vector.specs.declared.vec3.Vec3.{Vec3}
+use Rattle.vector.specs.ExactVectors.{F32Vec}
+use Rattle.commands.specs.Rows.{ModelRow}
+use Rattle.commands.specs.Fields.{Uses, Sources, usesTA, usesTAB, usesTABU, usesA, usesAB}
+use Rattle.commands.specs.Results.{Result, Empties, Point, Aim, Aims, Number, Whole, Shows}
+use Rattle.commands.specs.Commands.{Kinds, Entry, asserting, ofA, ofAB, ofABU}
+
+-- ---- one row
+-- a result writes only where t is used, and two rows only in 24
+abbrev pub Targets : ℕ → Bool → Result → Type 0
+Targets n t Empties = t ≡ true
+Targets n t (Point v) = t ≡ true
+Targets n t (Aim v) = t ≡ true
+Targets n t (Aims v w) = (t ≡ true) × (n ≡ 24)
+Targets n t (Number x) = Unit {0}
+Targets n t (Whole k) = Unit {0}
+Targets n t (Shows i r) = Unit {0}
+
+-- a result does not depend on a row that is not used
+abbrev pub Unread : Bool → (Sources → ModelRow → Sources) → (Sources → Result) → Type 0
+Unread true with result = Unit {0}
+Unread false with result = (s : Sources) (r : ModelRow) → result s ≡ result (with s r)
+
+abbrev pub withA : Sources → ModelRow → Sources
+withA s r = record { at = s .at; a = r; b = s .b; u = s .u; v = s .v; w = s .w }
+
+abbrev pub withB : Sources → ModelRow → Sources
+withB s r = record { at = s .at; a = s .a; b = r; u = s .u; v = s .v; w = s .w }
+
+-- of sources that are f32 numbers come vectors that are
+pub record FitSources (s : Sources) : Type 0 where
+  pub fits-a : F32Vec (s .a .numbers)
+  pub fits-b : F32Vec (s .b .numbers)
+  pub fits-u : Fits32 (s .u)
+  pub fits-v : Fits32 (s .v)
+  pub fits-w : Fits32 (s .w)
+
+abbrev pub FitResult : Result → Type 0
+FitResult Empties = Unit {0}
+FitResult (Point v) = F32Vec v
+FitResult (Aim v) = F32Vec v
+FitResult (Aims v w) = F32Vec v × F32Vec w
+FitResult (Number x) = Unit {0}
+FitResult (Whole k) = Unit {0}
+FitResult (Shows i r) = Unit {0}
+
+pub record Lawful (n : ℕ) (e : Entry) : Type 0 where
+  pub targets : (s : Sources) → Targets n (e .uses .t) (e .result s)
+  pub unread-a : Unread (e .uses .a) withA (e .result)
+  pub unread-b : Unread (e .uses .b) withB (e .result)
+  pub fits : (s : Sources) → FitSources s → FitResult (e .result s)
+
+-- ---- the shapes that most rows have: functions of a, of a and b, and of these and u
+module _ {n : ℕ} {k : Kinds} {x : Sources → Bool} where
+  pub lawful :
+      {uses : Uses} {result : Sources → Result} → ((s : Sources) → Targets n (uses .t) (result s)) → Unread (uses .a) withA result → Unread (uses .b) withB result
+      → ((s : Sources) → FitSources s → FitResult (result s))
+      → Lawful n (asserting uses k result x)
+  lawful t a b f = record { targets = t; unread-a = a; unread-b = b; fits = f }
+
+  -- a point
+  pub pointA : (f : Vec3 → Vec3) → ((a : Vec3) → F32Vec a → F32Vec (f a)) → Lawful n (asserting usesTA k (ofA Point f) x)
+  pointA f h = lawful (λ s. refl) tt (λ s r. refl) (λ s v. h _ (v .fits-a))
+
+  pub pointAB : (f : Vec3 → Vec3 → Vec3) → ((a b : Vec3) → F32Vec a → F32Vec b → F32Vec (f a b)) → Lawful n (asserting usesTAB k (ofAB Point f) x)
+  pointAB f h = lawful (λ s. refl) tt tt (λ s v. h _ _ (v .fits-a) (v .fits-b))
+
+  pub pointABU : (f : Vec3 → Vec3 → Float → Vec3) → ((a b : Vec3) (u : Float) → F32Vec b → F32Vec (f a b u)) → Lawful n (asserting usesTABU k (ofABU Point f) x)
+  pointABU f h = lawful (λ s. refl) tt tt (λ s v. h _ _ _ (v .fits-b))
+
+  -- a number or a whole number
+  pub numberA : (f : Vec3 → Float) → Lawful n (asserting usesA k (ofA Number f) x)
+  numberA f = lawful (λ s. tt) tt (λ s r. refl) (λ s v. tt)
+
+  pub numberAB : (f : Vec3 → Vec3 → Float) → Lawful n (asserting usesAB k (ofAB Number f) x)
+  numberAB f = lawful (λ s. tt) tt tt (λ s v. tt)
+
+  pub wholeA : (f : Vec3 → ℕ) → Lawful n (asserting usesA k (ofA Whole f) x)
+  wholeA f = lawful (λ s. tt) tt (λ s r. refl) (λ s v. tt)
+
+  pub wholeAB : (f : Vec3 → Vec3 → ℕ) → Lawful n (asserting usesAB k (ofAB Whole f) x)
+  wholeAB f = lawful (λ s. tt) tt tt (λ s v. tt)

@@ -1,0 +1,124 @@
+-- The table of commands (document 01, "The plain sheet", the list of commands): for each number the fields that it uses, the kinds that its sources may have,
+-- what it works out by the Rust function, and what that function asserts by glam_assert.
+use Prim.Native.Nat.{ℕ}
+use mathlib.Core.Bool.{Bool, true, cond, not}
+use mathlib.Core.List.{List, [], _∷_}
+use lib.Dec.{eqb}
+use lib.ListN.{getD}
+use lib.Ieee.{Float}
+use Rattle.vector.specs.declared.vec3.Vec3.{Vec3}
+use Rattle.vector.specs.Vectors.{vec}
+use Rattle.vector.specs.Operators.{add, sub, mulNumber}
+use Rattle.vector.specs.Elements.{min, max, minPosition, maxPosition}
+use Rattle.vector.specs.Comparisons.{cmple}
+use Rattle.vector.specs.Masks.{bitmask}
+use Rattle.vector.specs.Products.{dot, cross, length, distance}
+use Rattle.vector.specs.Projections.{projectOnto, rejectFrom, projectOntoNormalized, rejectFromNormalized}
+use Rattle.vector.specs.LengthClamps.{clampLength}
+use Rattle.vector.specs.Interpolation.{lerp, moveTowards, midpoint, mulAdd}
+use Rattle.vector.specs.Rounding.{trunc, floor, round, divEuclid, remEuclid}
+use Rattle.vector.specs.Optics.{reflect, refract, angleBetween}
+use Rattle.vector.specs.Orthogonal.{anyOrthogonalVector, anyOrthonormalPair}
+use Rattle.vector.specs.Asserts.{assertsClampLength, assertsProjectOnto, assertsRejectFrom, assertsProjectOntoNormalized, assertsRejectFromNormalized, assertsReflect, assertsRefract, assertsAngleBetween, assertsAnyOrthonormalPair}
+use Rattle.commands.specs.Codes.{emptyKind}
+use Rattle.commands.specs.Fields.{Uses, usesNone, usesT, usesTUVW, usesTA, usesTAU, usesTAUV, usesTAB, usesTABU, usesTABUVW, usesA, usesAB, Sources}
+use Rattle.commands.specs.Results.{Result, Empties, Point, Aim, Aims, Number, Whole, Shows, isDirection}
+
+-- the kinds that the sources may have: "A source may be of either kind unless a direction is asked for"
+pub data Kinds : Type 0 where
+  Filled : Kinds
+  Directions : Kinds
+
+unfoldable pub allows : Kinds → ℕ → Bool
+allows Filled kind = not (eqb kind emptyKind)
+allows Directions kind = isDirection kind
+
+-- a row of the table
+pub record Entry : Type 0 where
+  pub uses : Uses
+  pub takes : Kinds
+  pub result : Sources → Result
+  pub asserts : Sources → Bool
+
+-- one whose function asserts nothing
+abbrev pub entry : Uses → Kinds → (Sources → Result) → Entry
+entry uses takes result = record { uses = uses; takes = takes; result = result; asserts = λ (s : Sources). true }
+
+abbrev pub asserting : Uses → Kinds → (Sources → Result) → (Sources → Bool) → Entry
+asserting uses takes result asserts = record { uses = uses; takes = takes; result = result; asserts = asserts }
+
+-- functions of a, of a and b, and of these and u
+abbrev pub ofA : {A : Type 0} → (A → Result) → (Vec3 → A) → Sources → Result
+ofA r f s = r (f (s .a .numbers))
+
+abbrev pub ofAB : {A : Type 0} → (A → Result) → (Vec3 → Vec3 → A) → Sources → Result
+ofAB r f s = r (f (s .a .numbers) (s .b .numbers))
+
+abbrev pub ofAU : {A : Type 0} → (A → Result) → (Vec3 → Float → A) → Sources → Result
+ofAU r f s = r (f (s .a .numbers) (s .u))
+
+abbrev pub ofABU : {A : Type 0} → (A → Result) → (Vec3 → Vec3 → Float → A) → Sources → Result
+ofABU r f s = r (f (s .a .numbers) (s .b .numbers) (s .u))
+
+-- (u, v, w)
+abbrev pub values : Sources → Vec3
+values s = vec (s .u) (s .v) (s .w)
+
+-- "11 and 12 use the `_normalized` function where b is a direction"
+abbrev pub byKind : {A : Type 0} → (Vec3 → Vec3 → A) → (Vec3 → Vec3 → A) → Sources → A
+byKind ofDirection ofPoint s =
+    cond (isDirection (s .b .kind)) (ofDirection (s .a .numbers) (s .b .numbers)) (ofPoint (s .a .numbers) (s .b .numbers))
+
+unfoldable pub table : List Entry
+table =
+    -- 0 empties t
+    entry usesT Filled (λ (s : Sources). Empties)
+    -- 1: point (u, v, w)
+    ∷ entry usesTUVW Filled (λ (s : Sources). Point (values s))
+    -- 2: direction of a
+    ∷ entry usesTA Filled (ofA Aim (λ (a : Vec3). a))
+    -- 3 to 21: "Points, by the Rust function on a (and b)"
+    ∷ entry usesTAB Filled (ofAB Point add)
+    ∷ entry usesTAB Filled (ofAB Point sub)
+    ∷ entry usesTAB Filled (ofAB Point cross)
+    ∷ entry usesTAB Filled (ofAB Point min)
+    ∷ entry usesTAB Filled (ofAB Point max)
+    -- 8: a times u; 9: a.`mul_add`(b, (u, v, w)); 10: `clamp_length`(u, v)
+    ∷ entry usesTAU Filled (ofAU Point mulNumber)
+    ∷ entry usesTABUVW Filled (λ (s : Sources). Point (mulAdd (s .a .numbers) (s .b .numbers) (values s)))
+    ∷ asserting usesTAUV Filled (λ (s : Sources). Point (clampLength (s .a .numbers) (s .u) (s .v))) (λ (s : Sources). assertsClampLength (s .a .numbers) (s .u) (s .v))
+    -- 11: project a onto b; 12: reject a from b
+    ∷ asserting usesTAB Filled (λ (s : Sources). Point (byKind projectOntoNormalized projectOnto s)) (byKind assertsProjectOntoNormalized assertsProjectOnto)
+    ∷ asserting usesTAB Filled (λ (s : Sources). Point (byKind rejectFromNormalized rejectFrom s)) (byKind assertsRejectFromNormalized assertsRejectFrom)
+    -- 13: `lerp`(u); 14: `move_towards`(u); 15: `midpoint`
+    ∷ entry usesTABU Filled (ofABU Point lerp)
+    ∷ entry usesTABU Filled (ofABU Point moveTowards)
+    ∷ entry usesTAB Filled (ofAB Point midpoint)
+    -- 16 to 21: `trunc`, `floor`, `round`, `div_euclid`, `rem_euclid`, `any_orthogonal_vector`
+    ∷ entry usesTA Filled (ofA Point trunc)
+    ∷ entry usesTA Filled (ofA Point floor)
+    ∷ entry usesTA Filled (ofA Point round)
+    ∷ entry usesTAB Filled (ofAB Point divEuclid)
+    ∷ entry usesTAB Filled (ofAB Point remEuclid)
+    ∷ entry usesTA Filled (ofA Point anyOrthogonalVector)
+    -- 22: direction of `reflect`(a, b); 23: direction of `refract`(a, b, u)
+    ∷ asserting usesTAB Directions (ofAB Aim reflect) (λ (s : Sources). assertsReflect (s .a .numbers) (s .b .numbers))
+    ∷ asserting usesTABU Directions (ofABU Aim refract) (λ (s : Sources). assertsRefract (s .a .numbers) (s .b .numbers))
+    -- 24: directions of the two vectors of `any_orthonormal_pair`(a), into t and t+1
+    ∷ asserting usesTA Directions (λ (s : Sources). Aims (anyOrthonormalPair (s .a .numbers) .first) (anyOrthonormalPair (s .a .numbers) .second)) (λ (s : Sources). assertsAnyOrthonormalPair (s .a .numbers))
+    -- 25: `dot`; 26: `length` of a; 27: `distance`; 28: `angle_between`
+    ∷ entry usesAB Filled (ofAB Number dot)
+    ∷ entry usesA Filled (ofA Number length)
+    ∷ entry usesAB Filled (ofAB Number distance)
+    ∷ asserting usesAB Filled (ofAB Number angleBetween) (λ (s : Sources). assertsAngleBetween (s .a .numbers) (s .b .numbers))
+    -- 29: `min_position`; 30: `max_position`; 31: bitmask of a.`cmple`(b)
+    ∷ entry usesA Filled (ofA Whole minPosition)
+    ∷ entry usesA Filled (ofA Whole maxPosition)
+    ∷ entry usesAB Filled (ofAB Whole (λ (a b : Vec3). bitmask (cmple a b)))
+    -- 32 shows a
+    ∷ entry usesA Filled (λ (s : Sources). Shows (s .at) (s .a))
+    ∷ []
+
+-- the row of a command; one that is not in the table uses nothing, and 2 refuses it
+unfoldable pub entryAt : ℕ → Entry
+entryAt n = getD table n (entry usesNone Filled (λ (s : Sources). Empties))

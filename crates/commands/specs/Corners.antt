@@ -1,0 +1,107 @@
+-- All marked corners of document 01 in one computed check: those of scalars and of vectors, and those of the sheet with its listing, run on the reference
+-- model. Values are bits.
+use mathlib.Core.Path.{_≡_, refl}
+use mathlib.Core.List.{List, [], _∷_, _++_}
+use Prim.Native.Nat.{ℕ}
+use lib.Ieee as Ieee
+use Rattle.laws.specs.Exact as Exact
+use Rattle.laws.specs.WholeRoot as WholeRoot
+use Rattle.scalar.specs.Corners as Scalars
+use Rattle.scalar.specs.Corners.{Corners as ScalarCorners}
+use Rattle.scalar.specs.Root as Root
+use Rattle.scalar.specs.Sign as Sign
+use Rattle.vector.specs.Corners as Vectors
+use Rattle.vector.specs.Corners.{Corners as VectorCorners}
+use Rattle.vector.specs.Operators as Operators
+use Rattle.vector.specs.Products as Products
+use Rattle.vector.specs.Comparisons as Comparisons
+use Rattle.vector.specs.Normalizing as Normalizing
+use Rattle.vector.specs.Optics as Optics
+use Rattle.vector.specs.Orthogonal as Orthogonal
+use Rattle.commands.specs.declared.command.Command.{Command}
+use Rattle.commands.specs.Rows as Rows
+use Rattle.commands.specs.Commands as Commands
+use Rattle.commands.specs.Effects as Effects
+use Rattle.commands.specs.Results as Results
+use Rattle.commands.specs.Refusals as Refusals
+use Rattle.commands.specs.Answers.{ModelAnswer, refused}
+use Rattle.commands.specs.Rows.{fresh}
+use Rattle.commands.specs.Model as Model
+use Rattle.commands.specs.Model.{runFrom}
+
+abbrev command : ℕ → ℕ → ℕ → ℕ → ℕ → ℕ → ℕ → Command
+command n t a b u v w = record { number = n; t = t; a = a; b = b; u = u; v = v; w = w }
+
+abbrev answer : ℕ → ℕ → ℕ → ℕ → ℕ → ℕ → ModelAnswer
+answer k i kind x y z = record { refusal = k; row = i; kind = kind; x = x; y = y; z = z }
+
+-- document 01's listing
+abbrev listing : List Command
+listing = command 1 0 0 0 1077936128 1082130432 0 ∷ command 26 0 0 0 0 0 0 ∷ command 2 1 0 0 0 0 0 ∷ []
+
+-- a point in row 0, and its direction in row 1
+abbrev aimed : ℕ → ℕ → ℕ → List Command
+aimed x y z = command 1 0 0 0 x y z ∷ command 2 1 0 0 0 0 0 ∷ []
+
+-- the directions (1, 0, 0) in row 1 and (0, 1, 0) in row 3, and 23 on them
+abbrev refracted : ℕ → List Command
+refracted u = aimed 0x3f800000 0 0 ++ (command 1 2 0 0 0 0x3f800000 0 ∷ command 2 3 2 0 0 0 0 ∷ command 23 4 1 3 u 0 0 ∷ [])
+
+-- the last answer
+abbrev lastOf : List ModelAnswer → ModelAnswer
+lastOf [] = refused 0
+lastOf (x ∷ []) = x
+lastOf (x ∷ y ∷ xs) = lastOf (y ∷ xs)
+
+-- the answers from a fresh sheet
+abbrev answersTo : List Command → List ModelAnswer
+answersTo cs = runFrom fresh cs .answers
+
+pub record Corners : Type 0 where
+  -- the marked corners of scalars and of vectors
+  scalars : ScalarCorners
+  vectors : VectorCorners
+  -- "(the point (3, 4, 0), its length, its direction) prints"
+  listed :
+      answersTo listing
+      ≡ answer 0 0 1 1077936128 1082130432 0 ∷ answer 0 0 3 1084227584 0 0 ∷ answer 0 1 2 1058642330 1061997773 0 ∷ []
+  -- "Fresh: all empty", and "4, a source empty"; "0: t, kind 0, zeros", and then the row is empty
+  all-empty : answersTo (command 32 0 0 0 0 0 0 ∷ command 32 0 63 0 0 0 0 ∷ []) ≡ refused 4 ∷ refused 4 ∷ []
+  emptied : lastOf (answersTo (listing ++ (command 0 1 0 0 0 0 0 ∷ []))) ≡ answer 0 1 0 0 0 0
+  empty-again : lastOf (answersTo (listing ++ (command 0 1 0 0 0 0 0 ∷ command 32 0 1 0 0 0 0 ∷ []))) ≡ refused 4
+  -- "Command 2 on (2^-63, 0, 0) gives (1, 0, 0); on (2^-64, 0, 0) refusal 7."
+  short : lastOf (answersTo (aimed 0x20000000 0 0)) ≡ answer 0 1 2 0x3f800000 0 0
+  too-short : lastOf (answersTo (aimed 0x1f800000 0 0)) ≡ refused 7
+  -- "24 on (0, 0, 1): (1, -0, -0) and (-0, 1, -0)": row t, and row t+1 by 32
+  pair : lastOf (answersTo (aimed 0 0 0x3f800000 ++ (command 24 2 1 0 0 0 0 ∷ []))) ≡ answer 0 2 2 0x3f800000 0x80000000 0x80000000
+  pair-second :
+      lastOf (answersTo (aimed 0 0 0x3f800000 ++ (command 24 2 1 0 0 0 0 ∷ command 32 0 3 0 0 0 0 ∷ []))) ≡ answer 0 3 2 0x80000000 0x3f800000 0x80000000
+  -- "23 with (1, 0, 0) and (0, 1, 0): u = 1 gives (1, 0, 0); u = 2 refusal 8."
+  along : lastOf (answersTo (refracted 0x3f800000)) ≡ answer 0 4 2 0x3f800000 0 0
+  reflected : lastOf (answersTo (refracted 0x40000000)) ≡ refused 8
+  -- "In 23, u = 4 and 0.25 don't get 5, their outer neighbours do."
+  four-taken : lastOf (answersTo (refracted 0x40800000)) ≡ refused 8
+  above-four : lastOf (answersTo (refracted 0x40800001)) ≡ refused 5
+  quarter-taken : lastOf (answersTo (refracted 0x3e800000)) .refusal ≡ 0
+  below-quarter : lastOf (answersTo (refracted 0x3e7fffff)) ≡ refused 5
+
+pub corners : Corners
+unfolding Model.runBy Model.stepOf Model.applied Effects.effectOf Effects.taken Effects.unlessRefused Effects.commandEffect Rows.fresh Rows.rowAt Rows.written Commands.table Commands.entryAt Commands.allows Results.directionOf Refusals.unknown Refusals.noRow Refusals.badSource Refusals.outOfOrder Refusals.outOfRange Refusals.badValue Refusals.noRefraction Refusals.isNothing Refusals.lacksDirection Refusals.noFactor Refusals.noDirection Refusals.notFinite Refusals.first Refusals.early Refusals.late Refusals.refusals Refusals.refusalOf Comparisons.isFinite Normalizing.tryNormalize Normalizing.usable Products.length Products.lengthSquared Products.lengthRecip Products.dot Operators.mulNumber Operators.numberMul Operators.sub Optics.refract Optics.refractK Orthogonal.anyOrthonormalPair Sign.signum Sign.copysign Sign.abs Root.root Root.rootUnits WholeRoot.wholeRoot Exact.sizeIn Exact.negative Ieee.round Ieee.neg Ieee.div Ieee.sub Ieee.le Ieee.lt Ieee.eq Ieee.add Ieee.sum Ieee.mul Ieee.ofBits Ieee.toBits
+corners = record {
+  scalars = Scalars.corners;
+  vectors = Vectors.corners;
+  listed = refl;
+  all-empty = refl;
+  emptied = refl;
+  empty-again = refl;
+  short = refl;
+  too-short = refl;
+  pair = refl;
+  pair-second = refl;
+  along = refl;
+  reflected = refl;
+  four-taken = refl;
+  above-four = refl;
+  quarter-taken = refl;
+  below-quarter = refl;
+}

@@ -1,0 +1,66 @@
+-- What a command comes to on the two rows that it reads: rows to write, or an answer alone.
+use Prim.Native.Nat.{ℕ}
+use mathlib.Core.Bool.{Bool, cond}
+use lib.Dec.{eqb}
+use Rattle.vector.specs.declared.vec3.Vec3.{Vec3}
+use Rattle.vector.specs.declared.vec3.normalizing.Normalized.{Normalized}
+use Rattle.vector.specs.declared.vec3.normalizing.Normalized.the-variants.{Unit, Nothing}
+use Rattle.vector.specs.Vectors.{ZERO}
+use Rattle.commands.specs.declared.command.Command.{Command}
+use Rattle.commands.specs.declared.effects.Effect.{Effect}
+use Rattle.commands.specs.declared.effects.Effect.the-variants.{Tell, Put, PutTwo}
+use Rattle.commands.specs.Codes.{resultInfinite, directionMissing}
+use Rattle.commands.specs.Rows.{ModelRow, empty, point, direction}
+use Rattle.commands.specs.Fields.{Sources, sourcesOf}
+use Rattle.commands.specs.Results.{Result, Empties, Point, Aim, Aims, Number, Whole, Shows, directionOf}
+use Rattle.commands.specs.Commands.{entryAt}
+use Rattle.commands.specs.Refusals.{first, late, refusalOf, lacksDirection, notFinite}
+use Rattle.commands.specs.Answers.{ModelAnswer, refused, shown, number, whole, answerOf}
+
+-- row t is written, or rows t and t+1, or nothing but an answer
+pub data ModelEffect : Type 0 where
+  Puts : ModelRow → ModelEffect
+  PutsTwo : ModelRow → ModelRow → ModelEffect
+  Tells : ModelAnswer → ModelEffect
+
+-- the direction that there is: refusal 7 has refused the rest
+unfoldable pub taken : Normalized → Vec3
+taken (Unit v) = v
+taken Nothing = ZERO
+
+-- a result that nothing refuses
+unfoldable pub effectOf : Result → ModelEffect
+effectOf Empties = Puts empty
+effectOf (Point v) = Puts (point v)
+effectOf (Aim v) = Puts (direction (taken (directionOf v)))
+effectOf (Aims v w) = PutsTwo (direction (taken (directionOf v))) (direction (taken (directionOf w)))
+effectOf (Number x) = Tells (number x)
+effectOf (Whole n) = Tells (whole n)
+effectOf (Shows i r) = Tells (shown i r)
+
+-- the answer of a refusal, where there is one
+unfoldable pub unlessRefused : ℕ → ModelEffect → ModelEffect
+unlessRefused k e = cond (eqb k 0) e (Tells (refused k))
+
+-- a command on the rows of its sources: refused, or what it works out
+unfoldable pub commandEffect : Command → ModelRow → ModelRow → ModelEffect
+commandEffect c a b = let s = sourcesOf c a b in unlessRefused (refusalOf c s) (effectOf (entryAt (c .number) .result s))
+
+-- ---- what functions inside the crate promise each other
+-- refusal k where its condition holds
+unfoldable pub unless : ℕ → Bool → ModelEffect → ModelEffect
+unless k holds e = cond holds (Tells (refused k)) e
+
+-- a result that 7 or 6 may refuse
+unfoldable pub settled : Result → ModelEffect
+settled r = unless directionMissing (lacksDirection r) (unless resultInfinite (notFinite r) (effectOf r))
+
+-- a command that the early refusals have let through
+unfoldable pub lateEffect : Command → Sources → ModelEffect
+lateEffect c s = unlessRefused (first (late (c .number) s)) (effectOf (entryAt (c .number) .result s))
+
+-- the effect that the program's stands for
+unfoldable pub effectBy : Effect → ModelEffect
+effectBy (Tell x) = Tells (answerOf x)
+effectBy (Put k v) = Puts (record { kind = k; numbers = v })
+effectBy (PutTwo v w) = PutsTwo (direction v) (direction w)

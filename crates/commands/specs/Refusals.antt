@@ -1,0 +1,127 @@
+-- The refusals of a command (document 01, "Refused, and by whose doing"), each with its condition, in the order in which they are checked: "2, 3, 4, 5, 8, 7, 6".
+use Prim.Native.Nat.{ℕ}
+use mathlib.Core.Bool.{Bool, true, false, cond, not, _&&_, _||_}
+use mathlib.Core.List.{List, [], _∷_, _++_}
+use lib.Dec.{eqb, ltb}
+use lib.Ieee.{Float, binary32, ofBits, lt, le}
+use lib.Ieee.Scale.{finite}
+use Rattle.vector.specs.declared.vec3.normalizing.Normalized.{Normalized}
+use Rattle.vector.specs.declared.vec3.normalizing.Normalized.the-variants.{Unit, Nothing}
+use Rattle.vector.specs.Vectors.{zer}
+use Rattle.vector.specs.Comparisons.{isFinite}
+use Rattle.vector.specs.Projections.{otherLenSqRcp}
+use Rattle.vector.specs.Optics.{refractK}
+use Rattle.vector.specs.AssertLaws.{zeroLength}
+use Rattle.commands.specs.declared.command.Command.{Command}
+use Rattle.commands.specs.Codes.{last, pointKind, unknownCommand, rowOutside, unfitSource, valueOutside, resultInfinite, directionMissing, allReflected}
+use Rattle.commands.specs.Rows.{ModelRow}
+use Rattle.commands.specs.Fields.{Sources}
+use Rattle.commands.specs.Results.{Result, Empties, Point, Aim, Aims, Number, Whole, Shows, directionOf}
+use Rattle.commands.specs.Commands.{allows, entryAt}
+
+-- "2, command above 32"
+unfoldable pub unknown : ℕ → Bool
+unknown n = ltb last n
+
+-- "3, a used row above 63, or t = 63 in 24"
+unfoldable pub noRow : Command → Bool
+noRow c =
+    let uses = entryAt (c .number) .uses in
+    uses .t && ltb 63 (c .t) || uses .a && ltb 63 (c .a) || uses .b && ltb 63 (c .b) || eqb (c .number) 24 && eqb (c .t) 63
+
+-- "4, a source empty, or no direction in 22 to 24"
+unfoldable pub badSource : ℕ → ℕ → ℕ → Bool
+badSource n kindA kindB =
+    let e = entryAt n in
+    e .uses .a && not (allows (e .takes) kindA) || e .uses .b && not (allows (e .takes) kindB)
+
+-- 0.25 and 4
+abbrev pub quarter : Float
+quarter = ofBits binary32 0x3e800000
+
+abbrev pub four : Float
+four = ofBits binary32 0x40800000
+
+-- "5, a used value not finite, or in 10 not 0 ≤ u ≤ v, or in 23 u outside 0.25 to 4"
+unfoldable pub outOfOrder : ℕ → Float → Float → Bool
+outOfOrder n u v = eqb n 10 && not (le zer u && le u v)
+
+unfoldable pub outOfRange : ℕ → Float → Bool
+outOfRange n u = eqb n 23 && not (le quarter u && le u four)
+
+unfoldable pub badValue : ℕ → Float → Float → Float → Bool
+badValue n u v w =
+    let uses = entryAt n .uses in
+    uses .u && not (finite u) || uses .v && not (finite v) || uses .w && not (finite w) || outOfOrder n u v || outOfRange n u
+
+-- "8, in 23, `refract`'s k below zero"
+unfoldable pub noRefraction : ℕ → Sources → Bool
+noRefraction n s = eqb n 23 && lt (refractK (s .a .numbers) (s .b .numbers) (s .u)) zer
+
+-- "7, in 2 and 22 to 24 no direction; in 11 and 12 with b a point, 1/(b·b) not finite; in 28 a `length_squared` of zero"
+unfoldable pub isNothing : Normalized → Bool
+isNothing (Unit v) = false
+isNothing Nothing = true
+
+unfoldable pub lacksDirection : Result → Bool
+lacksDirection (Aim v) = isNothing (directionOf v)
+lacksDirection (Aims v w) = isNothing (directionOf v) || isNothing (directionOf w)
+lacksDirection Empties = false
+lacksDirection (Point v) = false
+lacksDirection (Number x) = false
+lacksDirection (Whole n) = false
+lacksDirection (Shows i r) = false
+
+unfoldable pub noFactor : ModelRow → Bool
+noFactor b = eqb (b .kind) pointKind && not (finite (otherLenSqRcp (b .numbers)))
+
+unfoldable pub noDirection : ℕ → Sources → Bool
+noDirection n s =
+    (eqb n 11 || eqb n 12) && noFactor (s .b)
+    || eqb n 28 && (zeroLength (s .a .numbers) || zeroLength (s .b .numbers))
+    || lacksDirection (entryAt n .result s)
+
+-- "6, a point or number result not finite"
+unfoldable pub notFinite : Result → Bool
+notFinite (Point v) = not (isFinite v)
+notFinite (Number x) = not (finite x)
+notFinite Empties = false
+notFinite (Aim v) = false
+notFinite (Aims v w) = false
+notFinite (Whole n) = false
+notFinite (Shows i r) = false
+
+-- a refusal's number, and whether its condition holds
+pub record Refusal : Type 0 where
+  pub number : ℕ
+  pub holds : Bool
+
+abbrev pub refuses : ℕ → Bool → Refusal
+refuses k b = record { number = k; holds = b }
+
+-- the number of the first whose condition holds, or 0
+unfoldable pub first : List Refusal → ℕ
+first [] = 0
+first (r ∷ rest) = cond (r .holds) (r .number) (first rest)
+
+-- "Checked in the order .. 2, 3, 4, 5, 8, 7, 6": those that the fields and the sources' kinds decide, then those that the work decides
+unfoldable pub early : Command → ℕ → ℕ → List Refusal
+early c kindA kindB =
+    refuses unknownCommand (unknown (c .number))
+    ∷ refuses rowOutside (noRow c)
+    ∷ refuses unfitSource (badSource (c .number) kindA kindB)
+    ∷ refuses valueOutside (badValue (c .number) (ofBits binary32 (c .u)) (ofBits binary32 (c .v)) (ofBits binary32 (c .w)))
+    ∷ []
+
+unfoldable pub late : ℕ → Sources → List Refusal
+late n s =
+    refuses allReflected (noRefraction n s)
+    ∷ refuses directionMissing (noDirection n s)
+    ∷ refuses resultInfinite (notFinite (entryAt n .result s))
+    ∷ []
+
+unfoldable pub refusals : Command → Sources → List Refusal
+refusals c s = early c (s .a .kind) (s .b .kind) ++ late (c .number) s
+
+unfoldable pub refusalOf : Command → Sources → ℕ
+refusalOf c s = first (refusals c s)

@@ -1,0 +1,41 @@
+-- The rows of the reference model (document 01, "The plain sheet": "64 rows, 0 to 63, each empty (kind 0, its numbers +0), a point (1) or a direction (2)
+-- with three numbers. Fresh: all empty"), and its state.
+use Prim.Native.Nat.{ℕ}
+use mathlib.Core.List.{List}
+use lib.ListN.{getD, set, replicate}
+use Rattle.vector.specs.declared.vec3.Vec3.{Vec3}
+use Rattle.vector.specs.Vectors.{ZERO}
+use Rattle.commands.specs.declared.row.Row.{Row}
+use Rattle.commands.specs.Codes.{rowCount, emptyKind, pointKind, directionKind}
+
+pub record ModelRow : Type 0 where
+  pub kind : ℕ
+  pub numbers : Vec3
+
+abbrev pub empty : ModelRow
+empty = record { kind = emptyKind; numbers = ZERO }
+
+abbrev pub point : Vec3 → ModelRow
+point v = record { kind = pointKind; numbers = v }
+
+abbrev pub direction : Vec3 → ModelRow
+direction v = record { kind = directionKind; numbers = v }
+
+-- row i; there is none from 64 on
+unfoldable pub rowAt : List ModelRow → ℕ → ModelRow
+rowAt rows i = getD rows i empty
+
+-- the rows with row i replaced
+unfoldable pub written : List ModelRow → ℕ → ModelRow → List ModelRow
+written rows i r = set rows i r
+
+-- all that a sheet holds
+pub record State : Type 0 where
+  pub rows : List ModelRow
+
+unfoldable pub fresh : State
+fresh = record { rows = replicate rowCount empty }
+
+-- the program's row, as the model's
+abbrev pub rowOf : Row → ModelRow
+rowOf r = record { kind = r .kind; numbers = r .v }

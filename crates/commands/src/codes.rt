@@ -1,0 +1,34 @@
+// The numbers of document 01 that have a meaning of their own (specs/Codes).
+
+// The highest command in use.
+pub const LAST: u32 = 32;
+
+// Kinds of rows and answers.
+pub const EMPTY: u32 = 0;
+
+pub const POINT: u32 = 1;
+
+pub const DIRECTION: u32 = 2;
+
+pub const NUMBER: u32 = 3;
+
+pub const WHOLE: u32 = 4;
+
+// Refusals.
+pub const ILL_FORMED: u32 = 1;
+
+pub const UNKNOWN_COMMAND: u32 = 2;
+
+pub const ROW_OUTSIDE: u32 = 3;
+
+pub const UNFIT_SOURCE: u32 = 4;
+
+pub const VALUE_OUTSIDE: u32 = 5;
+
+pub const RESULT_INFINITE: u32 = 6;
+
+pub const DIRECTION_MISSING: u32 = 7;
+
+pub const ALL_REFLECTED: u32 = 8;
+
+pub const LENT_TOO_SHORT: u32 = 9;

@@ -1,0 +1,88 @@
+// Directions as effects: a command that needs a direction takes it or refuses at that point.
+ghost use mathlib.Core.Path.{_≡_};
+ghost use lib.Ieee.{lt};
+ghost use Rattle.vector.specs.Vectors.{vec, zer};
+ghost use Rattle.vector.specs.Optics as Optics;
+ghost use Rattle.commands.specs.Codes as Codes;
+ghost use Rattle.commands.specs.Results as Results;
+ghost use Rattle.commands.specs.Effects.{effectBy, settled, unless};
+use crate::codes::ALL_REFLECTED;
+use crate::codes::DIRECTION;
+use crate::codes::DIRECTION_MISSING;
+use crate::command::Answer;
+use crate::effects::Effect;
+use scalar::sign::is_finite;
+use vector::vec3::Vec3;
+use vector::vec3::normalizing::Normalized;
+use vector::vec3::orthogonal::Pair;
+
+// 2^-126, the least squared length that a direction is taken of.
+const LEAST: f32 = 1.17549435e-38;
+
+// The direction of (x, y, z). Three numbers go in registers, where a vector would go through memory.
+fn direction_of_numbers(x: f32, y: f32, z: f32) -> Normalized
+    ensures { λ r. ⌜ r ≡ Results.directionOf (vec x y z) ⌝ }
+{
+    let v = Vec3 { x: x, y: y, z: z };
+    let length_squared = v.length_squared();
+    if length_squared < LEAST {
+        return Normalized::Nothing;
+    }
+    if is_finite(length_squared) {
+        v.try_normalize()
+    } else {
+        Normalized::Nothing
+    }
+}
+
+// "Direction of" a vector: none where its squared length is below 2^-126 or not finite.
+fn direction_of(v: Vec3) -> Normalized
+    ensures { λ r. ⌜ r ≡ Results.directionOf v ⌝ }
+{
+    direction_of_numbers(v.x, v.y, v.z)
+}
+
+// The direction of v as a row, or refusal 7.
+pub(crate) fn direction(v: Vec3) -> Effect
+    ensures { λ r. ⌜ effectBy r ≡ settled (Results.Aim v) ⌝ }
+{
+    let Normalized::Unit(d) = direction_of(v) else {
+        return Effect::Tell(Answer::Refused(DIRECTION_MISSING));
+    };
+    Effect::Put {
+        kind: DIRECTION,
+        v: d,
+    }
+}
+
+// The directions of two vectors, or refusal 7 where either has none.
+pub(crate) fn directions(p: Pair) -> Effect
+    ensures { λ r. ⌜ effectBy r ≡ settled (Results.Aims (p .first) (p .second)) ⌝ }
+{
+    let Normalized::Unit(d) = direction_of(p.first) else {
+        return Effect::Tell(Answer::Refused(DIRECTION_MISSING));
+    };
+    let Normalized::Unit(e) = direction_of(p.second) else {
+        return Effect::Tell(Answer::Refused(DIRECTION_MISSING));
+    };
+    Effect::PutTwo { v: d, w: e }
+}
+
+// `refract`'s k: what is below the root.
+fn refract_k(a: Vec3, normal: Vec3, eta: f32) -> f32
+    ensures { λ r. ⌜ r ≡ Optics.refractK a normal eta ⌝ }
+{
+    let n_dot_i = normal.dot(a);
+    1.0 - eta * eta * (1.0 - n_dot_i * n_dot_i)
+}
+
+// The direction of the refraction, or refusal 8 where all is reflected, then 7.
+pub(crate) fn refracted(a: Vec3, normal: Vec3, eta: f32) -> Effect
+    ensures { λ r. ⌜ effectBy r ≡ unless Codes.allReflected (lt (Optics.refractK a normal eta) zer) (settled (Results.Aim (Optics.refract a normal eta))) ⌝ }
+{
+    if refract_k(a, normal, eta) < 0.0 {
+        Effect::Tell(Answer::Refused(ALL_REFLECTED))
+    } else {
+        direction(a.refract(normal, eta))
+    }
+}

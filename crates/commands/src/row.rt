@@ -1,0 +1,8 @@
+// A row of a sheet, as a command reads and writes it.
+use vector::vec3::Vec3;
+
+// Kind 0 is empty, its numbers +0; 1 is a point; 2 a direction.
+pub struct Row {
+    pub kind: u32,
+    pub v: Vec3,
+}
