@@ -5,6 +5,9 @@
 #include <stddef.h>
 #include <stdint.h>
 
+/* What a caller keeps: pointers that are not NULL, to as many numbers as the count beside them says; arrays that do not overlap; and the processor's control word as it is at a program's start, rounding to
+   nearest and not flushing subnormal numbers to zero. */
+
 /* The rounded root, a times b plus c rounded once, and the roundings toward zero, down and to the nearest whole number, ties to even: IEEE 754's. */
 float bench_sqrt(float x);
 float bench_mul_add(float a, float b, float c);

@@ -24,21 +24,6 @@ unfolding takenOf
 taken-none room [] h = refl
 taken-none room (b ∷ l) h = absurd (omega (arith, h))
 
--- no more than there are, and one at least where an answer line has room
-pub taken-le : (room : ℕ) (l : List ℕ) → takenOf room l ≤ length l
-unfolding takenOf
-taken-le room [] = omega arith
-taken-le room (b ∷ l) = let rest = cond (eqb b 10) (room - 43) room in go (ltb room 43) (takenOf rest l) (taken-le rest l)
-  where
-    go : (x : Bool) (n : ℕ) → n ≤ length l → cond x 0 (suc n) ≤ suc (length l)
-    go true n h = omega arith
-    go false n h = omega arith
-
-pub some-taken : (room : ℕ) (l : List ℕ) → 0 < length l → 43 ≤ room → 0 < takenOf room l
-unfolding takenOf
-some-taken room [] b h = absurd (omega arith)
-some-taken room (b ∷ l) s h = rw (le-ltb _ _ h) (omega arith)
-
 -- the end of a line is the bytes before the line feed, and it
 pub ends-count : (bytes : List ℕ) (i took : ℕ) (rest : List ℕ) → Ends bytes i took rest → took ≡ length rest + 1
 ends-count bytes i took rest r =
@@ -67,3 +52,18 @@ module _ (room : ℕ) (h : 43 ≤ room) where
         let e : drop i bytes ≡ rest ++ (10 ∷ drop (i + took) bytes) =
         sym (take-append-drop took (drop i bytes)) ∙ rw (r .next, drop-drop took i bytes) (append-assoc rest (10 ∷ []) (drop (i + took) bytes)) in
         rw (e, taken-free rest (10 ∷ drop (i + took) bytes) (r .no-line-feed), taken-feed (drop (i + took) bytes)) (omega (arith, ends-count bytes i took rest r))
+
+-- no more than there are, and one at least where an answer line has room
+pub taken-le : (room : ℕ) (l : List ℕ) → takenOf room l ≤ length l
+unfolding takenOf
+taken-le room [] = omega arith
+taken-le room (b ∷ l) = let rest = cond (eqb b 10) (room - 43) room in go (ltb room 43) (takenOf rest l) (taken-le rest l)
+  where
+    go : (x : Bool) (n : ℕ) → n ≤ length l → cond x 0 (suc n) ≤ suc (length l)
+    go true n h = omega arith
+    go false n h = omega arith
+
+pub some-taken : (room : ℕ) (l : List ℕ) → 0 < length l → 43 ≤ room → 0 < takenOf room l
+unfolding takenOf
+some-taken room [] b h = absurd (omega arith)
+some-taken room (b ∷ l) s h = rw (le-ltb _ _ h) (omega arith)

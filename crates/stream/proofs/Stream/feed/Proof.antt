@@ -8,6 +8,7 @@ use mathlib.Core.Path.{_≡_, refl, sym}
 use lib.ListN.{length, take}
 use lib.Seq.{length-take-le}
 use Rattle.stream.specs.Stream.{held}
+use Rattle.stream.specs.Turns.{IsRun}
 use Rattle.stream.proofs.TakenLaws.{ends-count}
 use Rattle.stream.proofs.FeedLaws.{take-min, length-feeding}
 use Rattle.stream.proofs.TurnLaws.{Turning, step-told, turning-none, turned-full, turned-all, turn-run, turn-ill, turn-push, turn-full}
@@ -47,33 +48,40 @@ slice-aggregate-hear c =
     let loop = c .before .before .before .loop in
     sym (length-take-le (loop .len) (loop .line) (omega (arith, loop .inv .short, loop .inv .long)))
 
+-- what `hear` promised of a line that gives a command
+heard : (c : tie.After-took Inv-loop μ-loop) → let loop = c .before .before .before .before .before .before .before .before .loop in IsRun (c .before .before .before .before .before .before .before .before .before .before .before .before .before .before .args .bytes .now) (loop .i) (take (loop .len) (loop .line)) (c .before .before .before .hear .last .1 .1 .1 .0) (c .took .given .0 .0)
+heard c = rw (c .took .given .1) at (c .before .before .before .hear .ensures)
+
 add-i : tie.Need-add-i Inv-loop μ-loop
-add-i c = let r = rw (c .before .before .before .before .before .before .before .before .before .before .before .before .before .took .given .1) at (c .before .before .before .before .before .before .before .before .before .before .before .before .before .before .before .before .hear .ensures) in omega (arith, c .before .before .before .before .before .before .before .before .before .before .before .before .before .before .before .before .before .before .before .before .before .before .before .before .before .before .before .good .1 .1 .0, r .ends .part)
+add-i c = let r = heard (c .before .before .before .before .before .before .before .before .before .before .before .before .before) in omega (arith, c .before .before .before .before .before .before .before .before .before .before .before .before .before .before .before .before .before .before .before .before .before .before .before .before .before .before .before .good .1 .1 .0, r .ends .part)
 
 loop-less : tie.Need-loop-less Inv-loop μ-loop
-loop-less c =
-    let r = rw (c .before .before .before .before .before .before .before .before .before .before .before .before .before .took .given .1) at (c .before .before .before .before .before .before .before .before .before .before .before .before .before .before .before .before .hear .ensures) in
-    omega (arith, r .ends .part, ends-count _ _ _ _ (r .ends))
+loop-less c = let r = heard (c .before .before .before .before .before .before .before .before .before .before .before .before .before) in omega (arith, r .ends .part, ends-count _ _ _ _ (r .ends))
 
 loop-again : tie.Need-loop-again Inv-loop μ-loop
 loop-again c =
-    let at-if = c .before .before .before .before .before .before .before .before .before .before .before .before .before .before .before .before .before .before .before in
-    turn-run (at-if .before .before .loop .inv) (at-if .if1 .left) (rw (c .before .before .before .before .before .before .before .before .before .before .before .before .before .took .given .1) at (c .before .before .before .before .before .before .before .before .before .before .before .before .before .before .before .before .hear .ensures)) _ _ _ (search needs) (step-told _ _ _ _ _ _ refl (c .before .before .before .before .before .before .before .before .step-at .ensures)) (c .before .before .tell .ensures)
+    let at-took = c .before .before .before .before .before .before .before .before .before .before .before .before .before in
+    let at-if = at-took .before .before .before .before .before .before in
+    turn-run (at-if .before .before .loop .inv) (at-if .if1 .left) (heard at-took) _ _ _ (search needs) (step-told _ _ _ _ _ _ refl (c .before .before .before .before .before .before .before .before .step-at .ensures)) (c .before .before .tell .ensures)
 
 loop-again-2 : tie.Need-loop-again-2 Inv-loop μ-loop
 loop-again-2 c =
-    let at-if = c .before .before .before .before .before .before .before .before .before .before .before in
-    turn-ill (at-if .before .before .loop .inv) (at-if .if1 .left) (at-if .before .loop-test .taken) (rw (c .before .before .before .before .before .enum-told .given .1) at (c .before .before .before .before .before .before .before .before .hear .ensures)) _ (c .before .before .tell2 .ensures)
+    let at-told = c .before .before .before .before .before in
+    let at-hear = at-told .before .before .before in
+    let at-if = at-hear .before .before .before in
+    turn-ill (at-if .before .before .loop .inv) (at-if .if1 .left) (at-if .before .loop-test .taken) (rw (at-told .enum-told .given .1) at (at-hear .hear .ensures)) _ (c .before .before .tell2 .ensures)
 
 loop-again-3 : tie.Need-loop-again-3 Inv-loop μ-loop
 loop-again-3 c =
-    let at-if = c .before .before .before .before .before .before .before .before in
-    turn-push (at-if .before .before .loop .inv) (at-if .if1 .left) (at-if .before .loop-test .taken) _ (rw (c .before .before .b .given .1) at (c .before .before .before .before .before .hear .ensures)) (c .if2 .taken)
+    let at-hear = c .before .before .before .before .before in
+    let at-if = at-hear .before .before .before in
+    turn-push (at-if .before .before .loop .inv) (at-if .if1 .left) (at-if .before .loop-test .taken) _ (rw (c .before .before .b .given .1) at (at-hear .hear .ensures)) (c .if2 .taken)
 
 loop-again-4 : tie.Need-loop-again-4 Inv-loop μ-loop
 loop-again-4 c =
-    let at-if = c .before .before .before .before .before .before .before .before in
-    turn-full (at-if .before .before .loop .inv) (at-if .if1 .left) (at-if .before .loop-test .taken) _ (rw (c .before .before .b .given .1) at (c .before .before .before .before .before .hear .ensures)) (c .if2 .left)
+    let at-hear = c .before .before .before .before .before in
+    let at-if = at-hear .before .before .before in
+    turn-full (at-if .before .before .loop .inv) (at-if .if1 .left) (at-if .before .loop-test .taken) _ (rw (c .before .before .b .given .1) at (at-hear .hear .ensures)) (c .if2 .left)
 
 same-length-4 : tie.Need-same-length-4 Inv-loop μ-loop
 same-length-4 c = length-feeding (c .before .loop .inv .fed)
