@@ -1,5 +1,6 @@
 //! The table of a sitting: how often each command had each outcome, and which outcomes it can have.
 
+use crate::sheet::{used, COMMANDS};
 use crate::tally::{Tally, ABOVE, MALFORMED, OUTCOMES};
 use std::fmt;
 
@@ -13,7 +14,7 @@ pub fn can_have(row: usize, outcome: usize) -> bool {
         2 => row == ABOVE,
         0 | 3 => row < ABOVE,
         4 => (2..ABOVE).contains(&row),
-        5 => matches!(row, 1 | 8 | 9 | 10 | 13 | 14 | 23),
+        5 => used(row as u32).is_some_and(|used| used.values > 0),
         8 => row == 23,
         // reflected and refracted directions and pairs always have a direction (laws M, R and P of crates/vector)
         7 => matches!(row, 2 | 11 | 12 | 28),
@@ -33,7 +34,7 @@ impl fmt::Display for Tally {
         writeln!(f)?;
         for (row, counts) in self.counts.iter().enumerate() {
             match row {
-                ABOVE => write!(f, "above 32 ")?,
+                ABOVE => write!(f, "{:<9}", format!("above {}", COMMANDS - 1))?,
                 MALFORMED => write!(f, "malformed")?,
                 _ => write!(f, "{row:<9}")?,
             }

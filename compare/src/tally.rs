@@ -3,13 +3,13 @@
 use crate::check::Rust;
 use crate::exact::{dot, off_one, Size};
 use crate::sheet::lines::{read, write_answer};
-use crate::sheet::{Answer, Command, Kind, Refusal, Sheet, COMMANDS};
+use crate::sheet::{used, Answer, Command, Kind, Refusal, Sheet, COMMANDS};
 use crate::table::can_have;
 
 /// An outcome is 0 for a command done, or the number of its refusal.
 pub const OUTCOMES: usize = 9;
 
-/// The last two rows of the table: lines with a number above 32, and malformed lines.
+/// The last two rows of the table: lines with a number above the last command, and malformed lines.
 pub const ABOVE: usize = COMMANDS as usize;
 pub const MALFORMED: usize = ABOVE + 1;
 
@@ -69,7 +69,7 @@ impl Tally {
             return Answer::refused(Refusal::Result);
         };
         self.counts[(command.number as usize).min(ABOVE)][answer.refusal as usize] += 1;
-        if answer.refusal == 0 && command.number <= 24 {
+        if answer.refusal == 0 && used(command.number).is_some_and(|used| used.t) {
             self.look_at(command.t);
         }
         if answer.refusal == 0 && command.number == 24 {

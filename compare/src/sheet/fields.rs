@@ -2,7 +2,7 @@
 
 use super::Command;
 
-/// The commands are 0 to 32.
+/// How many commands there are, from 0 on.
 pub const COMMANDS: u32 = 33;
 
 /// The fields that a command uses.
@@ -17,7 +17,7 @@ pub struct Used {
     pub directions: bool,
 }
 
-/// The fields that a command uses; none for a number above 32.
+/// The fields that a command uses; none for a number that is no command.
 pub fn used(number: u32) -> Option<Used> {
     static TABLE: [Used; COMMANDS as usize] = table();
     TABLE.get(number as usize).copied()
@@ -35,7 +35,7 @@ const fn table() -> [Used; COMMANDS as usize] {
 
 const fn fields(number: u32) -> Used {
     Used {
-        t: number <= 24,
+        t: matches!(number, 0..=24),
         a: number >= 2,
         b: matches!(number, 3..=7 | 9 | 11..=15 | 19 | 20 | 22 | 23 | 25 | 27 | 28 | 31),
         values: match number {

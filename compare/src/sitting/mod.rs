@@ -17,7 +17,7 @@ use numbers::values;
 const PIECE: u64 = 16_384;
 
 /// Numbers of commands that there are not.
-const NO_COMMANDS: [u32; 10] = [33, 34, 40, 63, 64, 99, 100, 255, 256, 999];
+const NO_COMMANDS: [u32; 10] = [COMMANDS, COMMANDS + 1, 40, 63, 64, 99, 100, 255, 256, 999];
 
 pub struct Sitting {
     draw: Draw,

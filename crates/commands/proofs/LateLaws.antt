@@ -9,7 +9,7 @@ use lib.Dec.{eqb}
 use lib.ListN.{List·getD-eq-default}
 use Rattle.vector.specs.AssertLaws.{zeroLength}
 use Rattle.commands.specs.declared.command.Command.{Command}
-use Rattle.commands.specs.Codes.{resultInfinite, directionMissing, allReflected}
+use Rattle.commands.specs.Codes.{last, resultInfinite, directionMissing, allReflected}
 use Rattle.commands.specs.Fields.{Sources, usesNone}
 use Rattle.commands.specs.Results.{Result, Empties}
 use Rattle.commands.specs.Commands.{table, entryAt, entry, Filled}
@@ -61,11 +61,11 @@ none-below zero n h = omega arith
 none-below (suc k) n h = let l : k ≤ n = none-below k n (h .0) in let d : n ≡ k → ⊥ = h .1 in omega arith
 
 -- a number that is not in the table
-entry-past : (n : ℕ) → 33 ≤ n → entryAt n ≡ entry usesNone Filled (λ (s : Sources). Empties)
+entry-past : (n : ℕ) → last < n → entryAt n ≡ entry usesNone Filled (λ (s : Sources). Empties)
 unfolding entryAt table
 entry-past n l = List·getD-eq-default table _ {n = n} l
 
-past : (s : Sources) (n : ℕ) → 33 ≤ n → inOrder n s ≡ settled Empties
+past : (s : Sources) (n : ℕ) → last < n → inOrder n s ≡ settled Empties
 unfolding inOrder unless noRefraction
 past s n l =
     simp (
@@ -76,8 +76,8 @@ past s n l =
       far 28 (omega arith),
     )
   where
-    far : (k : ℕ) → k < 33 → eqb n k ≡ false
+    far : (k : ℕ) → k ≤ last → eqb n k ≡ false
     far k h = ne-eqb n k (λ e. omega (arith, e))
 
-pub past-table : (c : Command) (s : Sources) {e : ModelEffect} → NoneBelow 33 (c .number) → e ≡ settled Empties → e ≡ lateEffect c s
-past-table c s h k = arm c s (c .number) refl (k ∙ sym (past s (c .number) (none-below 33 (c .number) h)))
+pub past-table : (c : Command) (s : Sources) {e : ModelEffect} → NoneBelow (suc last) (c .number) → e ≡ settled Empties → e ≡ lateEffect c s
+past-table c s h k = arm c s (c .number) refl (k ∙ sym (past s (c .number) (none-below (suc last) (c .number) h)))

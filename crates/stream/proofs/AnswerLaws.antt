@@ -12,7 +12,7 @@ use Rattle.commands.specs.Answers.{ModelAnswer, refused}
 use Rattle.lines.specs.AnswerLine.{put}
 use Rattle.lines.proofs.LineMeaningLaws.{answer-length}
 use Rattle.stream.specs.Responses.{answerText}
-use Rattle.stream.specs.Stream.{EndedInto, endOf, endedOf}
+use Rattle.stream.specs.Stream.{endOf, endedOf}
 use Rattle.stream.specs.Turns.{toldAt}
 
 pub length-text : (x : ModelAnswer) → length (answerText x) ≡ 43

@@ -1,5 +1,5 @@
 -- Feeding bytes, some at a time: what holds between two turns of the loop, by any way of doing one command. Assumes nothing.
-use Prim.Native.Nat.{ℕ, suc, _+_, _-_, min, _≤_, _<_}
+use Prim.Native.Nat.{ℕ, _+_, _-_, min, _≤_, _<_}
 use mathlib.Core.Bool.{Bool, true, false}
 use mathlib.Core.Path.{_≡_, refl, sym, ap, _∙_}
 use mathlib.Core.List.{List, [], _∷_, _++_, append-assoc}
@@ -12,11 +12,11 @@ use lib.Seq.{take-all, take-suc-set, length-take-le, take-at, take-add, drop-app
 use Rattle.commands.specs.declared.command.Command.{Command}
 use Rattle.commands.specs.Model.{Stepped}
 use Rattle.stream.specs.Responses.{lineResponse, answerText}
-use Rattle.stream.specs.Stream.{Held, held, pushed, byteFed, feedOf, takenOf, FedInto, fedInto}
+use Rattle.stream.specs.Stream.{Held, held, pushed, byteFed, feedOf, takenOf, fedInto}
 use Rattle.stream.specs.Turns.{toldAt, Ends, IsByte}
 use Rattle.stream.proofs.PieceLaws.{feed-append-held, feed-append-text}
 use Rattle.stream.proofs.TakenLaws.{taken-byte, taken-line}
-use Rattle.stream.proofs.EndLaws.{answered, unanswered, line-fed}
+use Rattle.stream.proofs.EndLaws.{answered, line-fed}
 use Rattle.stream.proofs.AnswerLaws.{length-text}
 
 -- ---- the bytes of a line that are held

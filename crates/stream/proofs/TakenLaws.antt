@@ -7,7 +7,7 @@ use native.Mathlib.Omega.{arith}
 use native.Mathlib.Numerals.{add-one}
 use borrow.Author.Tests.{lt-ltb, le-ltb, ne-eqb}
 use lib.Dec.{ltb, eqb}
-use lib.ListN.{length, getD, take, drop, length-append, length-drop, length-take, take-append-drop}
+use lib.ListN.{length, getD, drop, length-append, length-drop, length-take, take-append-drop}
 use lib.Seq.{drop-drop, drop-cons}
 use Rattle.lines.specs.LineMeaning.{NoLineFeed}
 use Rattle.stream.specs.Stream.{takenOf}

@@ -9,7 +9,7 @@ use lib.Dec.{eqb}
 use lib.ListN.{length}
 use Rattle.commands.specs.declared.command.Command.{Command}
 use Rattle.commands.specs.Codes.{illFormed}
-use Rattle.commands.specs.Rows.{State, fresh}
+use Rattle.commands.specs.Rows.{State}
 use Rattle.commands.specs.Answers.{ModelAnswer, refused}
 use Rattle.commands.specs.Model.{Stepped, stepOf}
 use Rattle.commands.specs.Claim.{Claim}

@@ -1,6 +1,6 @@
 -- The bytes of an input, however they come (document 01, "Lines": "The program reads standard input and answers each line, refused ones included"), by any way
 -- of doing one command.
-use Prim.Native.Nat.{ℕ, zero, suc, _-_}
+use Prim.Native.Nat.{ℕ, suc, _-_}
 use mathlib.Core.Bool.{cond}
 use mathlib.Core.List.{List, [], _∷_, _++_}
 use lib.Dec.{eqb, ltb}
