@@ -3,6 +3,7 @@ ghost use Prim.Native.Nat.{_≤_};
 ghost use lib.ListN.{length};
 use libc::STDIN_FILENO;
 use libc::STDOUT_FILENO;
+use sheet::rows::STATE_WORDS;
 use stream::Stream;
 
 // The stream after a turn, whether the input has ended, and whether a read or a write has failed.
@@ -57,7 +58,7 @@ fn read_once(stream: Stream, state: &mut [u32], chunk: &mut [u8], out: &mut [u8]
 
 // A proved loop has to end, so this one counts its turns down, from a number that no run uses up.
 fn main() {
-    let mut state = [0u32; 320];
+    let mut state = [0u32; STATE_WORDS];
     let mut stream = Stream::fresh();
     let mut chunk = [0u8; 65536];
     let mut out = [0u8; 65536];

@@ -77,7 +77,7 @@ table =
     ∷ entry usesTUVW Filled (λ (s : Sources). Point (values s))
     -- 2: direction of a
     ∷ entry usesTA Filled (ofA Aim (λ (a : Vec3). a))
-    -- 3 to 21: "Points, by the Rust function on a (and b)"
+    -- 3 to 21: "Points, by the Rust function on a (and b)". 3: a + b; 4: a - b; 5: `cross`; 6: `min`; 7: `max`
     ∷ entry usesTAB Filled (ofAB Point add)
     ∷ entry usesTAB Filled (ofAB Point sub)
     ∷ entry usesTAB Filled (ofAB Point cross)

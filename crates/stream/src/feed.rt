@@ -3,7 +3,8 @@ ghost use mathlib.Core.Path.{_≡_};
 ghost use mathlib.Core.List.{[]};
 ghost use Prim.Native.Nat.{_≤_, min};
 ghost use Rattle.sheet.specs.Words.{lentStep};
-ghost use Rattle.stream.specs.Stream.{textOf, held, fedBy, fedInto, endedBy, endedOf};
+ghost use Rattle.stream.specs.Stream.{keptBytes, textOf, held, fedBy, fedInto, endedBy, endedOf};
+use crate::KEPT;
 use crate::Stream;
 use crate::hear::Heard;
 use crate::hear::hear;
@@ -28,9 +29,9 @@ pub struct Ended {
 
 // The bytes of a line that are held: 46 at most.
 fn kept(len: usize) -> usize
-    ensures { λ r. ⌜ (r ≤ 46) × (r ≡ min len 46) ⌝ }
+    ensures { λ r. ⌜ (r ≤ keptBytes) × (r ≡ min len keptBytes) ⌝ }
 {
-    if len < 46 { len } else { 46 }
+    if len < KEPT { len } else { KEPT }
 }
 
 impl Stream {
@@ -38,7 +39,7 @@ impl Stream {
     pub fn fresh() -> Stream
         ensures { λ r. ⌜ textOf r ≡ [] ⌝ }
     {
-        let line = [0u8; 46];
+        let line = [0u8; KEPT];
         Stream { line: line, len: 0 }
     }
 
@@ -81,7 +82,7 @@ impl Stream {
                     continue;
                 }
                 Heard::Byte(b) => {
-                    if len < 46 {
+                    if len < KEPT {
                         line[len] = b;
                         len += 1;
                         i += 1;

@@ -3,7 +3,11 @@ ghost use mathlib.Core.Path.{_≡_};
 ghost use Prim.Native.Nat.{_+_, _≤_, _<_};
 ghost use lib.ListN.{length};
 ghost use Rattle.stream.specs.Turns.{Hears};
+use lines::command_line::LINE_LENGTH;
 use lines::command_line::fields;
+
+// The bytes of a command line with its line feed.
+const WITH_FEED: usize = 46;
 
 // The numbers of a line that ends in the next bytes, so many of them; a line that is ill formed; or a byte of a line.
 pub(crate) enum Heard {
@@ -36,15 +40,15 @@ pub(crate) fn hear(bytes: &[u8], i: usize, text: &[u8], f: &mut [u32]) -> Heard
     if text.len() != 0 {
         return hear_byte(bytes, i, text, f);
     }
-    if bytes.len() - i < 46 {
+    if bytes.len() - i < WITH_FEED {
         return hear_byte(bytes, i, text, f);
     }
-    let end = i + 45;
+    let end = i + LINE_LENGTH;
     if bytes[end] != b'\n' {
         return hear_byte(bytes, i, text, f);
     }
     if fields(&bytes[i..end], f) {
-        Heard::Run(46)
+        Heard::Run(WITH_FEED)
     } else {
         hear_byte(bytes, i, text, f)
     }

@@ -4,8 +4,11 @@ mod hear;
 pub mod respond;
 mod tell;
 
+// How many bytes of a line are held: one more than a command line has.
+pub const KEPT: usize = 46;
+
 // The bytes of a line that has not ended: at most 46, so that a longer line is told from one of 45. The sheet lies in words that the caller lends.
 pub struct Stream {
-    pub line: [u8; 46],
+    pub line: [u8; KEPT],
     pub len: usize,
 }
