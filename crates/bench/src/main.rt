@@ -22,9 +22,9 @@ fn answer_all(stream: Stream, state: &mut [u32], bytes: &[u8], out: &mut [u8]) -
     while at < bytes.len() {
         let t = s.feed(state, &bytes[at..], out);
         s = t.stream;
-        at += t.took;
-        let put = t.put;
-        if io::write_all(STDOUT_FILENO, &out[..put]) {
+        at += t.consumed;
+        let produced = t.produced;
+        if io::write_all(STDOUT_FILENO, &out[..produced]) {
             continue;
         }
         return Turn {
@@ -77,6 +77,6 @@ fn main() {
         ended = t.ended;
     }
     let e = stream.ended(&mut out);
-    let put = e.put;
-    io::write_all(STDOUT_FILENO, &out[..put]);
+    let produced = e.produced;
+    io::write_all(STDOUT_FILENO, &out[..produced]);
 }

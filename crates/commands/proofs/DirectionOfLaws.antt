@@ -20,16 +20,16 @@ use Rattle.vector.proofs.VectorFits.{zero-vector, scaled-vector}
 use Rattle.vector.proofs.UnitLaws.{law-u}
 use Rattle.commands.specs.Results.{directionOf}
 use Rattle.commands.specs.Refusals.{isNothing}
-use Rattle.commands.specs.Effects.{taken}
+use Rattle.commands.specs.Effects.{directionIn}
 
 -- ---- f32 numbers, whether there is a direction or not
-abbrev FitTaken : Normalized → Type 0
-FitTaken d = F32Vec (taken d)
+abbrev FitIn : Normalized → Type 0
+FitIn d = F32Vec (directionIn d)
 
-pub direction-fits : (v : Vec3) → F32Vec (taken (directionOf v))
-unfolding taken directionOf tryNormalize
+pub direction-fits : (v : Vec3) → F32Vec (directionIn (directionOf v))
+unfolding directionIn directionOf tryNormalize
 direction-fits v =
-    cond-any FitTaken (acceptable v) _ Nothing (cond-any FitTaken (usable (lengthRecip v)) (Unit _) Nothing (scaled-vector v (lengthRecip v)) zero-vector)
+    cond-any FitIn (acceptable v) _ Nothing (cond-any FitIn (usable (lengthRecip v)) (Unit _) Nothing (scaled-vector v (lengthRecip v)) zero-vector)
     zero-vector
 
 -- ---- what refusal 7 lets pass
@@ -46,9 +46,9 @@ aimed v h = go (acceptable v) refl h
     go false e h = absurd (true≢false h)
 
 -- the direction written is the one that a vector has
-pub taken-is : (v : Vec3) (h : HasDirection v) → Aimed v → taken (directionOf v) ≡ h .direction
-unfolding taken
-taken-is v h a = ap taken (a .by-normalizing ∙ h .is)
+pub direction-in-is : (v : Vec3) (h : HasDirection v) → Aimed v → directionIn (directionOf v) ≡ h .direction
+unfolding directionIn
+direction-in-is v h a = ap directionIn (a .by-normalizing ∙ h .is)
 
 -- within 15 times 2^-24 of 1 is within 64 times
 wider : (x d e : ℕ) → Within x d (15 * e) → Within x d (64 * e)
@@ -57,8 +57,8 @@ wider x d e w = (omega (arith, w .0), omega (arith, w .1))
 pub unit-direction : (v : Vec3) → UnitWithin 15 v → Direction v
 unit-direction v u = record { values = u .values; numbers = u .numbers; near = wider (exactSquare v) (2 ^ 298) (2 ^ 274) (u .near) }
 
-pub taken-direction : (v : Vec3) (h : HasDirection v) → Aimed v → Direction (taken (directionOf v))
-taken-direction v h a = subst Direction (sym (taken-is v h a)) (unit-direction (h .direction) (h .unit))
+pub direction-in-unit : (v : Vec3) (h : HasDirection v) → Aimed v → Direction (directionIn (directionOf v))
+direction-in-unit v h a = subst Direction (sym (direction-in-is v h a)) (unit-direction (h .direction) (h .unit))
 
 pub has-direction : (v : Vec3) → F32Vec v → Aimed v → HasDirection v
 has-direction v f a = law-u v f (a .accepted)

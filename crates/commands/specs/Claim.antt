@@ -45,7 +45,7 @@ pub record Orthogonal (before after : State) (c : Command) : Type 0 where
 -- what is demanded of one command, in the state that it finds
 pub record Well (s : State) (c : Command) : Type 0 where
   -- refused exactly when the conditions say so, and under the number they give
-  pub told : stepOf s c .answer .refusal ≡ refusalAt s c
+  pub refused-exactly : stepOf s c .answer .refusal ≡ refusalAt s c
   -- "a refusal changes no row and gives that number with zeros" (demand 1)
   pub kept : (k : ℕ) → refusalAt s c ≡ suc k → stepOf s c ≡ stepped s (refused (suc k))
   pub orthogonal : refusalAt s c ≡ 0 → c .number ≡ 24 → Orthogonal s (stepOf s c .state) c

@@ -86,7 +86,7 @@ pub record Corners : Type 0 where
   below-quarter : lastOf (answersTo (refracted 0x3e7fffff)) ≡ refused 5
 
 pub corners : Corners
-unfolding Model.runBy Model.stepOf Model.applied Effects.effectOf Effects.taken Effects.unlessRefused Effects.commandEffect Rows.fresh Rows.rowAt Rows.written Commands.table Commands.entryAt Commands.allows Results.directionOf Refusals.unknown Refusals.noRow Refusals.badSource Refusals.outOfOrder Refusals.outOfRange Refusals.badValue Refusals.noRefraction Refusals.isNothing Refusals.lacksDirection Refusals.noFactor Refusals.noDirection Refusals.notFinite Refusals.first Refusals.early Refusals.late Refusals.refusals Refusals.refusalOf Comparisons.isFinite Normalizing.tryNormalize Normalizing.usable Products.length Products.lengthSquared Products.lengthRecip Products.dot Operators.mulNumber Operators.numberMul Operators.sub Optics.refract Optics.refractK Orthogonal.anyOrthonormalPair Sign.signum Sign.copysign Sign.abs Root.root Root.rootUnits WholeRoot.wholeRoot Exact.sizeIn Exact.negative Ieee.round Ieee.neg Ieee.div Ieee.sub Ieee.le Ieee.lt Ieee.eq Ieee.add Ieee.sum Ieee.mul Ieee.ofBits Ieee.toBits
+unfolding Model.runBy Model.stepOf Model.applied Effects.effectOf Effects.directionIn Effects.unlessRefused Effects.commandEffect Rows.fresh Rows.rowAt Rows.withRow Commands.table Commands.entryAt Commands.allows Results.directionOf Refusals.unknown Refusals.noRow Refusals.badSource Refusals.outOfOrder Refusals.outOfRange Refusals.badValue Refusals.noRefraction Refusals.isNothing Refusals.lacksDirection Refusals.noFactor Refusals.noDirection Refusals.notFinite Refusals.first Refusals.early Refusals.late Refusals.refusals Refusals.refusalOf Comparisons.isFinite Normalizing.tryNormalize Normalizing.usable Products.length Products.lengthSquared Products.lengthRecip Products.dot Operators.mulNumber Operators.numberMul Operators.sub Optics.refract Optics.refractK Orthogonal.anyOrthonormalPair Sign.signum Sign.copysign Sign.abs Root.root Root.rootUnits WholeRoot.wholeRoot Exact.sizeIn Exact.negative Ieee.round Ieee.neg Ieee.div Ieee.sub Ieee.le Ieee.lt Ieee.eq Ieee.add Ieee.sum Ieee.mul Ieee.ofBits Ieee.toBits
 corners = record {
   scalars = Scalars.corners;
   vectors = Vectors.corners;

@@ -24,16 +24,16 @@ pub data ModelEffect : Type 0 where
   Tells : ModelAnswer → ModelEffect
 
 -- the direction that there is: refusal 7 has refused the rest
-unfoldable pub taken : Normalized → Vec3
-taken (Unit v) = v
-taken Nothing = ZERO
+unfoldable pub directionIn : Normalized → Vec3
+directionIn (Unit v) = v
+directionIn Nothing = ZERO
 
 -- a result that nothing refuses
 unfoldable pub effectOf : Result → ModelEffect
 effectOf Empties = Puts empty
 effectOf (Point v) = Puts (point v)
-effectOf (Aim v) = Puts (direction (taken (directionOf v)))
-effectOf (Aims v w) = PutsTwo (direction (taken (directionOf v))) (direction (taken (directionOf w)))
+effectOf (Aim v) = Puts (direction (directionIn (directionOf v)))
+effectOf (Aims v w) = PutsTwo (direction (directionIn (directionOf v))) (direction (directionIn (directionOf w)))
 effectOf (Number x) = Tells (number x)
 effectOf (Whole n) = Tells (whole n)
 effectOf (Shows i r) = Tells (shown i r)

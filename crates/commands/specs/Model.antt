@@ -2,7 +2,7 @@
 use Prim.Native.Nat.{ℕ, _+_}
 use mathlib.Core.List.{List, [], _∷_}
 use Rattle.commands.specs.declared.command.Command.{Command}
-use Rattle.commands.specs.Rows.{ModelRow, State, rowAt, written}
+use Rattle.commands.specs.Rows.{ModelRow, State, rowAt, withRow}
 use Rattle.commands.specs.Answers.{ModelAnswer, shown}
 use Rattle.commands.specs.Effects.{ModelEffect, Puts, PutsTwo, Tells, commandEffect}
 
@@ -19,8 +19,8 @@ withRows s rows = record { rows = rows }
 
 -- "A written row answers t, its kind and numbers (24: row t's; 0: t, kind 0, zeros)"
 unfoldable pub applied : State → ℕ → ModelEffect → Stepped State
-applied s t (Puts r) = stepped (withRows s (written (s .rows) t r)) (shown t r)
-applied s t (PutsTwo p q) = stepped (withRows s (written (written (s .rows) t p) (t + 1) q)) (shown t p)
+applied s t (Puts r) = stepped (withRows s (withRow (s .rows) t r)) (shown t r)
+applied s t (PutsTwo p q) = stepped (withRows s (withRow (withRow (s .rows) t p) (t + 1) q)) (shown t p)
 applied s t (Tells x) = stepped s x
 
 -- one command: "sources are read before anything is written"; "No refusal changes a row"

@@ -26,8 +26,8 @@ unfoldable pub rowAt : List ModelRow → ℕ → ModelRow
 rowAt rows i = getD rows i empty
 
 -- the rows with row i replaced
-unfoldable pub written : List ModelRow → ℕ → ModelRow → List ModelRow
-written rows i r = set rows i r
+unfoldable pub withRow : List ModelRow → ℕ → ModelRow → List ModelRow
+withRow rows i r = set rows i r
 
 -- all that a sheet holds
 pub record State : Type 0 where

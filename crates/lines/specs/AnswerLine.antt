@@ -18,5 +18,5 @@ abbrev pub answerLength : ℕ
 answerLength = 43
 
 -- the lent bytes afterwards: "fewer than 43 bytes lent for an answer line, [..] no byte written"; "Longer buffers stay unchanged past their first 43 bytes."
-unfoldable pub put : ℕ → ℕ → ℕ → ℕ → ℕ → ℕ → List ℕ → List ℕ
-put refusal row kind x y z out = cond (ltb (length out) answerLength) out (answerLine refusal row kind x y z ++ drop answerLength out)
+unfoldable pub answerInto : ℕ → ℕ → ℕ → ℕ → ℕ → ℕ → List ℕ → List ℕ
+answerInto refusal row kind x y z out = cond (ltb (length out) answerLength) out (answerLine refusal row kind x y z ++ drop answerLength out)

@@ -22,14 +22,14 @@ numbers l = cond (eqb (length l) lineLength) (numbersAt 0 widths l) none
 -- ---- the numbers in places that a caller lends
 
 -- with fewer than seven places lent, nothing is read
-unfoldable pub taken : List ℕ → List ℕ → Option (List ℕ)
-taken l f = cond (ltb (length f) 7) none (numbers l)
+unfoldable pub readInto : List ℕ → List ℕ → Option (List ℕ)
+readInto l f = cond (ltb (length f) 7) none (numbers l)
 
 unfoldable pub isRead : Option (List ℕ) → Bool
 isRead none = false
 isRead (some ns) = true
 
 -- the places afterwards: the first seven hold the numbers, if they were read, and nothing else changes
-unfoldable pub put : Option (List ℕ) → List ℕ → List ℕ
-put none f = f
-put (some ns) f = ns ++ drop 7 f
+unfoldable pub placesAfter : Option (List ℕ) → List ℕ → List ℕ
+placesAfter none f = f
+placesAfter (some ns) f = ns ++ drop 7 f

@@ -11,7 +11,7 @@ pub const ANSWER_LENGTH: usize = 43;
 
 // Writes the six numbers as an answer line over the first 43 bytes of out; where fewer are lent, writes nothing.
 pub fn put_six(out: &mut [u8], refusal: u32, row: u32, kind: u32, x: u32, y: u32, z: u32)
-    ensures { λ _. ⌜ now (out .exit) ≡ AnswerLine.put refusal row kind x y z (now (out .entry)) ⌝ }
+    ensures { λ _. ⌜ now (out .exit) ≡ AnswerLine.answerInto refusal row kind x y z (now (out .entry)) ⌝ }
 {
     if out.len() < ANSWER_LENGTH {
         return;

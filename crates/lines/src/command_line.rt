@@ -16,8 +16,8 @@ pub const LINE_LENGTH: usize = 45;
 // Reads the numbers of a line into the first seven places of f, and answers whether it did: it does not where the line is ill formed,
 // nor where fewer than seven places are lent. An enum with the numbers in its case would have them copied once more.
 pub fn fields(line: &[u8], f: &mut [u32]) -> bool
-    ensures { λ r. ⌜ r ≡ CommandLine.isRead (CommandLine.taken (now (line .entry)) (now (f .entry))) ⌝ }
-    ensures { λ _. ⌜ now (f .exit) ≡ CommandLine.put (CommandLine.taken (now (line .entry)) (now (f .entry))) (now (f .entry)) ⌝ }
+    ensures { λ r. ⌜ r ≡ CommandLine.isRead (CommandLine.readInto (now (line .entry)) (now (f .entry))) ⌝ }
+    ensures { λ _. ⌜ now (f .exit) ≡ CommandLine.placesAfter (CommandLine.readInto (now (line .entry)) (now (f .entry))) (now (f .entry)) ⌝ }
 {
     if f.len() < 7 {
         return false;

@@ -8,7 +8,7 @@ use borrow.Author.Tests.{lt-ltb, le-ltb}
 use lib.ListN.{length, drop}
 use Rattle.commands.specs.declared.command.Command.{Command}
 use Rattle.commands.specs.Codes.{lentTooShort}
-use Rattle.commands.specs.Rows.{State, rowAt, written}
+use Rattle.commands.specs.Rows.{State, rowAt, withRow}
 use Rattle.commands.specs.Answers.{refused}
 use Rattle.commands.specs.Effects.{ModelEffect, Puts, PutsTwo, Tells}
 use Rattle.commands.specs.Model.{Stepped, stepped, applied, effectOn, stepOf, runFrom}
@@ -37,7 +37,7 @@ module _ (w : List ℕ) (t : ℕ) where
   effect-lent (Puts r) l h f = row-written w t r h l f
   effect-lent (PutsTwo p q) l h f =
       row-written (putRow w t p) (t + 1) q h (omega (arith, length-put w t p, l)) (f .1)
-      ∙ ap (λ (s : State). record { rows = written (s .rows) (t + 1) q }) (row-written w t p (omega (arith, h)) l (f .0))
+      ∙ ap (λ (s : State). record { rows = withRow (s .rows) (t + 1) q }) (row-written w t p (omega (arith, h)) l (f .0))
   effect-lent (Tells x) l h f = refl
 
   length-effect : (e : ModelEffect) → length (wordsAfter w t e) ≡ length w

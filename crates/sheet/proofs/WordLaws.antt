@@ -11,7 +11,7 @@ use Rattle.vector.specs.Vectors.{vec}
 use Rattle.vector.specs.ExactVectors.{F32Vec}
 use Rattle.vector.proofs.VectorFits.{zero-vector}
 use Rattle.commands.specs.Codes.{rowCount}
-use Rattle.commands.specs.Rows.{ModelRow, empty, rowAt, written, fresh}
+use Rattle.commands.specs.Rows.{ModelRow, empty, rowAt, withRow, fresh}
 use Rattle.sheet.specs.Words.{rowWidth, stateWords, wordRow, rowsFrom, modelOf, rowWords, putRow}
 
 -- ---- lists
@@ -113,8 +113,8 @@ words-row r h =
 
 pub row-written :
     (w : List ℕ) (t : ℕ) (r : ModelRow) → t < rowCount → stateWords ≤ length w → F32Vec (r .numbers)
-    → modelOf (putRow w t r) ≡ record { rows = written (modelOf w .rows) t r }
-unfolding modelOf written putRow
+    → modelOf (putRow w t r) ≡ record { rows = withRow (modelOf w .rows) t r }
+unfolding modelOf withRow putRow
 row-written w t r l m h =
     ap (λ (rows : List ModelRow). record { rows = rows }) (rows-written rowCount t w r l (omega arith) ∙ ap (set (rowsFrom rowCount w) t) (words-row r h))
 

@@ -10,7 +10,16 @@ use commands::codes::WHOLE;
 use commands::command::Answer;
 use scalar::bits::to_bits;
 
-fn put_six(out: &mut [u32], at: usize, refusal: u32, row: u32, kind: u32, x: u32, y: u32, z: u32)
+fn put_numbers(
+    out: &mut [u32],
+    at: usize,
+    refusal: u32,
+    row: u32,
+    kind: u32,
+    x: u32,
+    y: u32,
+    z: u32,
+)
     requires { ⌜ at + 6 ≤ length (now out) ⌝ }
     ensures { λ _. ⌜ now (out .exit) ≡ sets (now (out .entry)) at (refusal ∷ row ∷ kind ∷ x ∷ y ∷ z ∷ []) ⌝ }
 {
@@ -28,9 +37,9 @@ pub(crate) fn put_answer(out: &mut [u32], at: usize, x: Answer)
     ensures { λ _. ⌜ now (out .exit) ≡ sets (now (out .entry)) at (numbersOf (answerOf x)) ⌝ }
 {
     match x {
-        Answer::Refused(k) => put_six(out, at, k, 0, 0, 0, 0, 0),
+        Answer::Refused(k) => put_numbers(out, at, k, 0, 0, 0, 0, 0),
         Answer::Shown { row, kind, v } => {
-            put_six(
+            put_numbers(
                 out,
                 at,
                 0,
@@ -41,8 +50,8 @@ pub(crate) fn put_answer(out: &mut [u32], at: usize, x: Answer)
                 to_bits(v.z),
             )
         }
-        Answer::Number(n) => put_six(out, at, 0, 0, NUMBER, to_bits(n), 0, 0),
-        Answer::Whole(n) => put_six(out, at, 0, 0, WHOLE, n, 0, 0),
+        Answer::Number(n) => put_numbers(out, at, 0, 0, NUMBER, to_bits(n), 0, 0),
+        Answer::Whole(n) => put_numbers(out, at, 0, 0, WHOLE, n, 0, 0),
     }
 }
 

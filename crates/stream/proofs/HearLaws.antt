@@ -8,31 +8,31 @@ use native.Mathlib.Omega.{arith}
 use borrow.Author.Tests.{le-ltb}
 use lib.ListN.{length, getD, take, drop, length-drop, drop-of-length-le}
 use lib.Seq.{take-suc, getD-drop, drop-cons}
-use Rattle.lines.specs.CommandLine.{numbers, taken, isRead, put}
+use Rattle.lines.specs.CommandLine.{numbers, readInto, isRead, placesAfter}
 use Rattle.lines.specs.LineMeaning.{NoLineFeed}
 use Rattle.lines.proofs.LineMeaningLaws.{well-formed-whole}
 use Rattle.stream.specs.Turns.{Ends, IsRun}
 
 -- ---- the numbers of a line, in seven lent places
 module _ (l f : List ℕ) (seven : length f ≡ 7) where
-  taken-numbers : taken l f ≡ numbers l
-  unfolding taken
-  taken-numbers = rw (le-ltb (length f) 7 (omega arith)) refl
+  read-into-numbers : readInto l f ≡ numbers l
+  unfolding readInto
+  read-into-numbers = rw (le-ltb (length f) 7 (omega arith)) refl
 
-  pub read-all : (g : List ℕ) → true ≡ isRead (taken l f) → g ≡ put (taken l f) f → numbers l ≡ some g
-  unfolding isRead put
-  read-all g r p = go (numbers l) (r ∙ ap isRead taken-numbers) (p ∙ ap (λ (o : Option (List ℕ)). put o f) taken-numbers)
+  pub read-all : (g : List ℕ) → true ≡ isRead (readInto l f) → g ≡ placesAfter (readInto l f) f → numbers l ≡ some g
+  unfolding isRead placesAfter
+  read-all g r p = go (numbers l) (r ∙ ap isRead read-into-numbers) (p ∙ ap (λ (o : Option (List ℕ)). placesAfter o f) read-into-numbers)
     where
-      go : (o : Option (List ℕ)) → true ≡ isRead o → g ≡ put o f → o ≡ some g
+      go : (o : Option (List ℕ)) → true ≡ isRead o → g ≡ placesAfter o f → o ≡ some g
       go none r p = cc
       go (some ns) r p =
           let le : length f ≤ 7 = omega arith in
           let z : drop 7 f ≡ [] = drop-of-length-le f le in
           ap some (sym (p ∙ ap (λ (t : List ℕ). ns ++ t) z ∙ append-nil ns))
 
-  pub read-none : false ≡ isRead (taken l f) → numbers l ≡ none
+  pub read-none : false ≡ isRead (readInto l f) → numbers l ≡ none
   unfolding isRead
-  read-none r = go (numbers l) (r ∙ ap isRead taken-numbers)
+  read-none r = go (numbers l) (r ∙ ap isRead read-into-numbers)
     where
       go : (o : Option (List ℕ)) → false ≡ isRead o → o ≡ none
       go none r = refl

@@ -12,8 +12,8 @@ use Rattle.commands.specs.Fields.{commandOf}
 use Rattle.sheet.specs.Run.{steppedAt, lentStepAt}
 use Rattle.lines.specs.CommandLine.{numbers}
 use Rattle.stream.specs.Responses.{response, lineResponse, responded, respondOf}
-use Rattle.stream.specs.Turns.{toldAt, answerFrom}
-use Rattle.stream.proofs.TurnLaws.{step-told}
+use Rattle.stream.specs.Turns.{answeredAt, answerFrom}
+use Rattle.stream.proofs.TurnLaws.{step-answered}
 
 -- ---- the line's answer
 module _ (w line : List ℕ) where
@@ -24,7 +24,7 @@ module _ (w line : List ℕ) where
   pub answer-ran : (ns w′ six six′ : List ℕ) (k : ℕ) → numbers line ≡ some ns → length six ≡ 6 → steppedAt w′ six′ k ≡ lentStepAt w (commandOf ns) six 0
       → stepped w′ (answerFrom six′) ≡ lineResponse lentStep w line
   unfolding response
-  answer-ran ns w′ six six′ k e n s = rw e (step-told w w′ six six′ (commandOf ns) k n s)
+  answer-ran ns w′ six six′ k e n s = rw e (step-answered w w′ six six′ (commandOf ns) k n s)
 
 -- ---- and the lent bytes
 module _ (w line out : List ℕ) where
@@ -33,7 +33,7 @@ module _ (w line out : List ℕ) where
   respond-short h = rw (lt-ltb _ _ h) refl
 
   -- the six numbers of the line's answer, written as its answer line
-  pub respond-told : (w′ six out′ : List ℕ) → 43 ≤ length out → stepped w′ (answerFrom six) ≡ lineResponse lentStep w line → out′ ≡ toldAt 0 (answerFrom six) out
+  pub respond-answered : (w′ six out′ : List ℕ) → 43 ≤ length out → stepped w′ (answerFrom six) ≡ lineResponse lentStep w line → out′ ≡ answeredAt 0 (answerFrom six) out
       → responded w′ (getD six 0 0) out′ ≡ respondOf lentStep w line out
   unfolding respondOf
-  respond-told w′ six out′ long e o = rw (le-ltb _ _ long, ← e, o) refl
+  respond-answered w′ six out′ long e o = rw (le-ltb _ _ long, ← e, o) refl

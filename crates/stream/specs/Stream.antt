@@ -12,7 +12,7 @@ use Rattle.commands.specs.Model.{Stepped}
 use Rattle.lines.specs.CommandLine.{lineLength}
 use Rattle.lines.specs.AnswerLine.{answerLength}
 use Rattle.stream.specs.declared.Stream.{Stream}
-use Rattle.stream.specs.declared.feed.Taken.{Taken}
+use Rattle.stream.specs.declared.feed.Progress.{Progress}
 use Rattle.stream.specs.declared.feed.Ended.{Ended}
 use Rattle.stream.specs.Responses.{lineResponse, answerText}
 
@@ -54,31 +54,31 @@ feedOf step h (b ∷ l) =
     record { held = rest .held; text = first .text ++ rest .text }
 
 -- ---- into lent bytes
--- how many bytes are taken: each while an answer line has room
-unfoldable pub takenOf : ℕ → List ℕ → ℕ
-takenOf room [] = 0
-takenOf room (b ∷ l) = cond (ltb room answerLength) 0 (suc (takenOf (cond (eqb b lineFeed) (room - answerLength) room) l))
+-- how many bytes are consumed: each while an answer line has room
+unfoldable pub consumedOf : ℕ → List ℕ → ℕ
+consumedOf room [] = 0
+consumedOf room (b ∷ l) = cond (ltb room answerLength) 0 (suc (consumedOf (cond (eqb b lineFeed) (room - answerLength) room) l))
 
--- what is held, how many bytes were taken and put, and the lent bytes afterwards: the answers, and past them what was there
+-- what is held, how many bytes were consumed and produced, and the lent bytes afterwards: the answers, and past them what was there
 pub record FedInto (S : Type 0) : Type 0 where
   pub held : Held S
-  pub took : ℕ
-  pub put : ℕ
+  pub consumed : ℕ
+  pub produced : ℕ
   pub out : List ℕ
 
 unfoldable pub fedInto : {S : Type 0} → (S → Command → Stepped S) → Held S → List ℕ → List ℕ → FedInto S
 fedInto step h bytes out =
-    let took = takenOf (length out) bytes in
-    let f = feedOf step h (take took bytes) in
-    record { held = f .held; took = took; put = length (f .text); out = f .text ++ drop (length (f .text)) out }
+    let consumed = consumedOf (length out) bytes in
+    let f = feedOf step h (take consumed bytes) in
+    record { held = f .held; consumed = consumed; produced = length (f .text); out = f .text ++ drop (length (f .text)) out }
 
 -- ---- the program's
 -- the bytes that a stream holds
 abbrev pub textOf : Stream → List ℕ
 textOf s = take (s .len) (s .line)
 
-abbrev pub fedBy : List ℕ → Taken → List ℕ → FedInto (List ℕ)
-fedBy w r out = record { held = held w (textOf (r .stream)); took = r .took; put = r .put; out = out }
+abbrev pub fedBy : List ℕ → Progress → List ℕ → FedInto (List ℕ)
+fedBy w r out = record { held = held w (textOf (r .stream)); consumed = r .consumed; produced = r .produced; out = out }
 
 -- ---- the end of an input
 -- "Bytes after the last line feed are a line too, refused by 1"
@@ -88,16 +88,16 @@ endOf text = cond (eqb (length text) 0) [] (answerText (refused illFormed))
 -- the lent bytes after it, how many of them are written, and the refusal: none where no byte is left, 9 where the answer line has no room
 pub record EndedInto : Type 0 where
   pub bytes : List ℕ
-  pub put : ℕ
+  pub produced : ℕ
   pub refusal : ℕ
 
 unfoldable pub endedOf : List ℕ → List ℕ → EndedInto
 endedOf text out =
     cond (eqb (length text) 0)
-    (record { bytes = out; put = 0; refusal = 0 })
+    (record { bytes = out; produced = 0; refusal = 0 })
     (cond (ltb (length out) answerLength)
-    (record { bytes = out; put = 0; refusal = lentTooShort })
-    (record { bytes = endOf text ++ drop answerLength out; put = answerLength; refusal = illFormed }))
+    (record { bytes = out; produced = 0; refusal = lentTooShort })
+    (record { bytes = endOf text ++ drop answerLength out; produced = answerLength; refusal = illFormed }))
 
 abbrev pub endedBy : Ended → List ℕ → EndedInto
-endedBy r out = record { bytes = out; put = r .put; refusal = r .refusal }
+endedBy r out = record { bytes = out; produced = r .produced; refusal = r .refusal }

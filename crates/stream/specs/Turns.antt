@@ -14,23 +14,23 @@ use Rattle.stream.specs.Responses.{answerText}
 use Rattle.stream.specs.Stream.{lineFeed}
 
 -- the lent bytes with an answer line over the 43 from `at` on
-abbrev pub toldAt : ℕ → ModelAnswer → List ℕ → List ℕ
-toldAt at x out = take at out ++ (answerText x ++ drop (at + answerLength) out)
+abbrev pub answeredAt : ℕ → ModelAnswer → List ℕ → List ℕ
+answeredAt at x out = take at out ++ (answerText x ++ drop (at + answerLength) out)
 
 -- the answer of six numbers
 abbrev pub answerFrom : List ℕ → ModelAnswer
 answerFrom l = record { refusal = getD l 0 0; row = getD l 1 0; kind = getD l 2 0; x = getD l 3 0; y = getD l 4 0; z = getD l 5 0 }
 
--- the next bytes, took of them, are the rest of a line and its line feed
-pub record Ends (bytes : List ℕ) (i took : ℕ) (rest : List ℕ) : Type 0 where
-  pub part : i + took ≤ length bytes
+-- the next bytes, so many of them, are the rest of a line and its line feed
+pub record Ends (bytes : List ℕ) (i consumed : ℕ) (rest : List ℕ) : Type 0 where
+  pub part : i + consumed ≤ length bytes
   pub no-line-feed : NoLineFeed rest
-  pub next : take took (drop i bytes) ≡ rest ++ (lineFeed ∷ [])
+  pub next : take consumed (drop i bytes) ≡ rest ++ (lineFeed ∷ [])
 
 -- they end a line that gives the numbers f
-pub record IsRun (bytes : List ℕ) (i : ℕ) (text f : List ℕ) (took : ℕ) : Type 0 where
+pub record IsRun (bytes : List ℕ) (i : ℕ) (text f : List ℕ) (consumed : ℕ) : Type 0 where
   pub rest : List ℕ
-  pub ends : Ends bytes i took rest
+  pub ends : Ends bytes i consumed rest
   pub line : numbers (text ++ rest) ≡ some f
 
 -- the next byte ends an ill formed line
@@ -44,6 +44,6 @@ pub record IsByte (bytes : List ℕ) (i b : ℕ) : Type 0 where
   pub other : b ≡ lineFeed → ⊥
 
 abbrev pub Hears : List ℕ → ℕ → List ℕ → List ℕ → Heard → Type 0
-Hears bytes i text f (Run took) = IsRun bytes i text f took
+Hears bytes i text f (Run consumed) = IsRun bytes i text f consumed
 Hears bytes i text f Ill = IsIll bytes i text
 Hears bytes i text f (Byte b) = IsByte bytes i b

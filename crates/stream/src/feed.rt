@@ -6,24 +6,24 @@ ghost use Rattle.sheet.specs.Words.{lentStep};
 ghost use Rattle.stream.specs.Stream.{keptBytes, textOf, held, fedBy, fedInto, endedBy, endedOf};
 use crate::KEPT;
 use crate::Stream;
+use crate::answers::put_line;
 use crate::hear::Heard;
 use crate::hear::hear;
-use crate::tell::tell;
 use commands::codes::ILL_FORMED;
 use commands::codes::LENT_TOO_SHORT;
 use lines::answer_line::ANSWER_LENGTH;
 use sheet::step::step_at;
 
-// The stream afterwards, how many bytes were taken, and how many put.
-pub struct Taken {
+// The stream afterwards, how many bytes of the input were consumed, and how many of answers produced.
+pub struct Progress {
     pub stream: Stream,
-    pub took: usize,
-    pub put: usize,
+    pub consumed: usize,
+    pub produced: usize,
 }
 
-// How many bytes were put, and the refusal: 1 for the line that has not ended, 9 where its answer line has no room, 0 where no byte is left.
+// How many bytes were produced, and the refusal: 1 for the line that has not ended, 9 where its answer line has no room, 0 where no byte is left.
 pub struct Ended {
-    pub put: usize,
+    pub produced: usize,
     pub refusal: u32,
 }
 
@@ -43,40 +43,40 @@ impl Stream {
         Stream { line: line, len: 0 }
     }
 
-    // Takes bytes in turn while an answer line has room, and runs the commands of the lines that end on the sheet that lies in the words.
-    pub fn feed(self, state: &mut [u32], bytes: &[u8], out: &mut [u8]) -> Taken
+    // Consumes bytes in turn while an answer line has room, and runs the commands of the lines that end on the sheet that lies in the words.
+    pub fn feed(self, state: &mut [u32], bytes: &[u8], out: &mut [u8]) -> Progress
         ensures { λ r. ⌜ fedBy (now (state .exit)) r (now (out .exit)) ≡ fedInto lentStep (held (now (state .entry)) (textOf self)) (now (bytes .entry)) (now (out .entry)) ⌝ }
     {
         let mut line = self.line;
         let mut len = kept(self.len);
-        let mut put: usize = 0;
+        let mut produced: usize = 0;
         let mut i: usize = 0;
         while i < bytes.len() {
-            if out.len() - put < ANSWER_LENGTH {
-                return Taken {
+            if out.len() - produced < ANSWER_LENGTH {
+                return Progress {
                     stream: Stream {
                         line: line,
                         len: len,
                     },
-                    took: i,
-                    put: put,
+                    consumed: i,
+                    produced: produced,
                 };
             }
             let mut f = [0u32; 7];
             let mut six = [0u32; 6];
             match hear(bytes, i, &line[..len], &mut f) {
-                Heard::Run(took) => {
+                Heard::Run(consumed) => {
                     step_at(state, &f, 0, &mut six, 0);
-                    tell(out, put, &six);
-                    put += ANSWER_LENGTH;
-                    i += took;
+                    put_line(out, produced, &six);
+                    produced += ANSWER_LENGTH;
+                    i += consumed;
                     len = 0;
                     continue;
                 }
                 Heard::Ill => {
                     six[0] = ILL_FORMED;
-                    tell(out, put, &six);
-                    put += ANSWER_LENGTH;
+                    put_line(out, produced, &six);
+                    produced += ANSWER_LENGTH;
                     i += 1;
                     len = 0;
                     continue;
@@ -93,13 +93,13 @@ impl Stream {
                 }
             }
         }
-        Taken {
+        Progress {
             stream: Stream {
                 line: line,
                 len: len,
             },
-            took: i,
-            put: put,
+            consumed: i,
+            produced: produced,
         }
     }
 
@@ -108,18 +108,21 @@ impl Stream {
         ensures { λ r. ⌜ endedBy r (now (out .exit)) ≡ endedOf (textOf self) (now (out .entry)) ⌝ }
     {
         if self.len == 0 {
-            return Ended { put: 0, refusal: 0 };
+            return Ended {
+                produced: 0,
+                refusal: 0,
+            };
         }
         if out.len() < ANSWER_LENGTH {
             return Ended {
-                put: 0,
+                produced: 0,
                 refusal: LENT_TOO_SHORT,
             };
         }
         let six = [ILL_FORMED, 0, 0, 0, 0, 0];
-        tell(out, 0, &six);
+        put_line(out, 0, &six);
         Ended {
-            put: ANSWER_LENGTH,
+            produced: ANSWER_LENGTH,
             refusal: ILL_FORMED,
         }
     }

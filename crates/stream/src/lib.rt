@@ -1,8 +1,8 @@
 // Lines on a sheet: one line with its answer line, and the bytes of an input, however they come.
+mod answers;
 pub mod feed;
 mod hear;
 pub mod respond;
-mod tell;
 
 // How many bytes of a line are held: one more than a command line has.
 pub const KEPT: usize = 46;

@@ -2,7 +2,7 @@
 ghost use mathlib.Core.Path.{_≡_};
 ghost use Rattle.sheet.specs.Words.{lentStep};
 ghost use Rattle.stream.specs.Responses.{responded, respondOf};
-use crate::tell::tell;
+use crate::answers::put_line;
 use commands::codes::ILL_FORMED;
 use commands::codes::LENT_TOO_SHORT;
 use lines::answer_line::ANSWER_LENGTH;
@@ -24,6 +24,6 @@ pub fn respond(state: &mut [u32], line: &[u8], out: &mut [u8]) -> u32
     } else {
         six[0] = ILL_FORMED;
     }
-    tell(out, 0, &six);
+    put_line(out, 0, &six);
     six[0]
 }

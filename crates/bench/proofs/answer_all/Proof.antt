@@ -8,7 +8,7 @@ use mathlib.Core.List.{List}
 use native.Mathlib.Omega.{arith}
 use lib.ListN.{length, take, drop, length-take, length-drop}
 use lib.Seq.{length-take-le}
-use Rattle.stream.proofs.FedLaws.{took-part, took-some, put-fits}
+use Rattle.stream.proofs.FedLaws.{consumed-part, consumed-some, produced-fits}
 use Rattle.bench.proofs.answer_all.Statement.{statement}
 use Rattle.bench.proofs.answer_all.Tie as tie
 
@@ -21,31 +21,31 @@ abbrev μ-loop : tie.MeasureT-loop
 length-rest : (l : List ℕ) (at : ℕ) → length (take (length l - at) (drop at l)) ≡ length l - at
 length-rest l at = length-take (length l - at) (drop at l) ∙ omega (arith, length-drop at l)
 
-took-left : (c : tie.After-feed Inv-loop μ-loop) → c .feed .result .took ≤ length (c .before .before .before .before .before .before .before .before .before .args .bytes .now) - c .before .before .before .before .before .loop .at
-took-left c = omega (arith, took-part _ _ _ _ _ (c .feed .ensures), length-rest (c .before .before .before .before .before .before .before .before .before .args .bytes .now) (c .before .before .before .before .before .loop .at))
+consumed-left : (c : tie.After-feed Inv-loop μ-loop) → c .feed .result .consumed ≤ length (c .before .before .before .before .before .before .before .before .before .args .bytes .now) - c .before .before .before .before .before .loop .at
+consumed-left c = omega (arith, consumed-part _ _ _ _ _ (c .feed .ensures), length-rest (c .before .before .before .before .before .before .before .before .before .args .bytes .now) (c .before .before .before .before .before .loop .at))
 
-took-one : (c : tie.After-feed Inv-loop μ-loop) → 0 < c .feed .result .took
-took-one c =
+consumed-one : (c : tie.After-feed Inv-loop μ-loop) → 0 < c .feed .result .consumed
+consumed-one c =
     let rest = length-rest (c .before .before .before .before .before .before .before .before .before .args .bytes .now) (c .before .before .before .before .before .loop .at) in
-    took-some _ _ _ _ _ (c .feed .ensures) (omega (arith, rest, c .before .before .before .before .loop-test .taken)) (omega (arith, c .before .before .before .before .before .before .before .before .before .pre, c .before .before .before .before .before .loop .inv .2))
+    consumed-some _ _ _ _ _ (c .feed .ensures) (omega (arith, rest, c .before .before .before .before .loop-test .taken)) (omega (arith, c .before .before .before .before .before .before .before .before .before .pre, c .before .before .before .before .before .loop .inv .2))
 
-fits : (c : tie.After-feed Inv-loop μ-loop) → c .feed .result .put ≤ length (c .feed .last .1 .1 .1 .0)
-fits c = let kept = c .feed .kept .1 .1 .1 .0 in omega (arith, kept, put-fits _ _ _ _ _ (c .feed .ensures) kept)
+fits : (c : tie.After-feed Inv-loop μ-loop) → c .feed .result .produced ≤ length (c .feed .last .1 .1 .1 .0)
+fits c = let kept = c .feed .kept .1 .1 .1 .0 in omega (arith, kept, produced-fits _ _ _ _ _ (c .feed .ensures) kept)
 
 add-at : tie.Need-add-at Inv-loop μ-loop
-add-at c = omega (arith, took-left (c .before .before .before .before .before .before), c .before .before .before .before .before .before .before .before .before .before .before .loop .inv .0, c .before .before .before .before .before .before .before .before .before .before .before .before .before .before .before .good .1 .1 .0)
+add-at c = omega (arith, consumed-left (c .before .before .before .before .before .before), c .before .before .before .before .before .before .before .before .before .before .before .loop .inv .0, c .before .before .before .before .before .before .before .before .before .before .before .before .before .before .before .good .1 .1 .0)
 
 slice-reshare-prefix-write-all : tie.Need-slice-reshare-prefix-write-all Inv-loop μ-loop
 slice-reshare-prefix-write-all c = fits (c .before .before .before .before .before .before)
 
 slice-aggregate-write-all : tie.Need-slice-aggregate-write-all Inv-loop μ-loop
-slice-aggregate-write-all c = sym (length-take-le (c .before .before .before .before .before .before .before .feed .result .put) (c .before .before .before .before .before .before .before .feed .last .1 .1 .1 .0) (fits (c .before .before .before .before .before .before .before)))
+slice-aggregate-write-all c = sym (length-take-le (c .before .before .before .before .before .before .before .feed .result .produced) (c .before .before .before .before .before .before .before .feed .last .1 .1 .1 .0) (fits (c .before .before .before .before .before .before .before)))
 
 loop-less : tie.Need-loop-less Inv-loop μ-loop
-loop-less c = omega (arith, took-left (c .before .before .before .before .before .before .before .before .before), took-one (c .before .before .before .before .before .before .before .before .before))
+loop-less c = omega (arith, consumed-left (c .before .before .before .before .before .before .before .before .before), consumed-one (c .before .before .before .before .before .before .before .before .before))
 
 loop-again : tie.Need-loop-again Inv-loop μ-loop
-loop-again c = let left = took-left (c .before .before .before .before .before .before .before .before .before) in search needs
+loop-again c = let left = consumed-left (c .before .before .before .before .before .before .before .before .before) in search needs
 
 pub answer-all-spec : {M : Type 1} → statement M
 answer-all-spec =

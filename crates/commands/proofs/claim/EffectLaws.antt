@@ -9,13 +9,13 @@ use Rattle.commands.specs.Fields.{sourcesOf}
 use Rattle.commands.specs.Results.{Result, Empties, Point, Aim, Aims, Number, Whole, Shows, directionOf}
 use Rattle.commands.specs.Commands.{entryAt}
 use Rattle.commands.specs.Refusals.{isNothing, lacksDirection, notFinite}
-use Rattle.commands.specs.Effects.{ModelEffect, Puts, PutsTwo, Tells, taken, effectOf}
+use Rattle.commands.specs.Effects.{ModelEffect, Puts, PutsTwo, Tells, directionIn, effectOf}
 use Rattle.commands.specs.Claim.{SoundRow}
 use Rattle.commands.proofs.ConditionLaws.{Done, known-number, none-of-two}
 use Rattle.commands.proofs.table.EntryLaws.{FitResult}
 use Rattle.commands.proofs.table.TableLaws.{entry-lawful}
 use Rattle.commands.proofs.CommandLaws.{sources-fit}
-use Rattle.commands.proofs.DirectionOfLaws.{aimed, has-direction, taken-direction}
+use Rattle.commands.proofs.DirectionOfLaws.{aimed, has-direction, direction-in-unit}
 use Rattle.commands.proofs.claim.RefusalLaws.{directed, finite-vector}
 use Rattle.commands.proofs.claim.RowLaws.{empty-row, point-row, direction-row}
 
@@ -24,8 +24,8 @@ SoundEffect (Puts r) = SoundRow r
 SoundEffect (PutsTwo r s) = SoundRow r × SoundRow s
 SoundEffect (Tells x) = x .refusal ≡ 0
 
-direction-written : (v : Vec3) → F32Vec v → isNothing (directionOf v) ≡ false → SoundRow (direction (taken (directionOf v)))
-direction-written v f h = let a = aimed v h in direction-row (taken (directionOf v)) (taken-direction v (has-direction v f a) a)
+direction-written : (v : Vec3) → F32Vec v → isNothing (directionOf v) ≡ false → SoundRow (direction (directionIn (directionOf v)))
+direction-written v f h = let a = aimed v h in direction-row (directionIn (directionOf v)) (direction-in-unit v (has-direction v f a) a)
 
 -- a result that neither 7 nor 6 refuses
 result-sound : (r : Result) → FitResult r → lacksDirection r ≡ false → notFinite r ≡ false → SoundEffect (effectOf r)

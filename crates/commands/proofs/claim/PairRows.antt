@@ -11,9 +11,9 @@ use Rattle.commands.specs.Fields.{Sources}
 use Rattle.commands.specs.Results.{directionOf}
 use Rattle.commands.specs.Commands.{table, entryAt}
 use Rattle.commands.specs.Refusals.{isNothing, lacksDirection}
-use Rattle.commands.specs.Effects.{PutsTwo, taken, effectOf}
+use Rattle.commands.specs.Effects.{PutsTwo, directionIn, effectOf}
 use Rattle.commands.proofs.ConditionLaws.{none-of-two}
-use Rattle.commands.proofs.DirectionOfLaws.{aimed, taken-is}
+use Rattle.commands.proofs.DirectionOfLaws.{aimed, direction-in-is}
 use Rattle.commands.proofs.claim.SourceLaws.{Held, direction-there}
 
 abbrev firstAim : Sources → Vec3
@@ -22,18 +22,18 @@ firstAim s = anyOrthonormalPair (s .a .numbers) .first
 abbrev secondAim : Sources → Vec3
 secondAim s = anyOrthonormalPair (s .a .numbers) .second
 
-abbrev pub firstTaken : Sources → Vec3
-firstTaken s = taken (directionOf (anyOrthonormalPair (s .a .numbers) .first))
+abbrev pub firstDirection : Sources → Vec3
+firstDirection s = directionIn (directionOf (anyOrthonormalPair (s .a .numbers) .first))
 
-abbrev pub secondTaken : Sources → Vec3
-secondTaken s = taken (directionOf (anyOrthonormalPair (s .a .numbers) .second))
+abbrev pub secondDirection : Sources → Vec3
+secondDirection s = directionIn (directionOf (anyOrthonormalPair (s .a .numbers) .second))
 
 pub record PairTaken (n v w : Vec3) : Type 0 where
   pub with-first : NearlyOrthogonal n v
   pub with-second : NearlyOrthogonal n w
   pub with-each-other : NearlyOrthogonal v w
 
-pub effect-24 : (c : Command) (s : Sources) → c .number ≡ 24 → effectOf (entryAt (c .number) .result s) ≡ PutsTwo (direction (firstTaken s)) (direction (secondTaken s))
+pub effect-24 : (c : Command) (s : Sources) → c .number ≡ 24 → effectOf (entryAt (c .number) .result s) ≡ PutsTwo (direction (firstDirection s)) (direction (secondDirection s))
 unfolding effectOf table entryAt
 effect-24 c s is = rw is refl
 
@@ -41,13 +41,13 @@ read-direction : (s : Sources) → Held 24 (entryAt 24) s → Direction (s .a .n
 unfolding table entryAt
 read-direction s h = direction-there (s .a) (h .row-a) (h .fit-a refl)
 
-pub pair-taken : (s : Sources) → Held 24 (entryAt 24) s → lacksDirection (entryAt 24 .result s) ≡ false → PairTaken (s .a .numbers) (firstTaken s) (secondTaken s)
+pub pair-taken : (s : Sources) → Held 24 (entryAt 24) s → lacksDirection (entryAt 24 .result s) ≡ false → PairTaken (s .a .numbers) (firstDirection s) (secondDirection s)
 unfolding lacksDirection table entryAt
 pair-taken s h directed =
     let pair = law-p (s .a .numbers) (read-direction s h) in
     let both = none-of-two (isNothing (directionOf (firstAim s))) (isNothing (directionOf (secondAim s))) directed in
-    let first-is = taken-is (firstAim s) (pair .first) (aimed (firstAim s) (both .0)) in
-    let second-is = taken-is (secondAim s) (pair .second) (aimed (secondAim s) (both .1)) in
+    let first-is = direction-in-is (firstAim s) (pair .first) (aimed (firstAim s) (both .0)) in
+    let second-is = direction-in-is (secondAim s) (pair .second) (aimed (secondAim s) (both .1)) in
     record {
       with-first = rw first-is (pair .with-first);
       with-second = rw second-is (pair .with-second);

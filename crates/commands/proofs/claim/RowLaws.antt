@@ -12,7 +12,7 @@ use Rattle.vector.specs.Vectors.{ZERO}
 use Rattle.vector.specs.ExactVectors.{F32Vec, FiniteVec, Direction}
 use Rattle.vector.proofs.VectorFits.{zero-vector}
 use Rattle.commands.specs.Codes.{rowCount}
-use Rattle.commands.specs.Rows.{ModelRow, State, empty, point, direction, fresh, rowAt, written}
+use Rattle.commands.specs.Rows.{ModelRow, State, empty, point, direction, fresh, rowAt, withRow}
 use Rattle.commands.specs.Model.{withRows}
 use Rattle.commands.specs.Claim.{SoundRow, Sound}
 
@@ -31,16 +31,16 @@ pub direction-row : (v : Vec3) → Direction v → SoundRow (direction v)
 direction-row v d = record { known-kind = lit≤ tt; zeros = λ e. absurd (omega (arith, e)); values = d .values; numbers-finite = d .numbers; unit = λ _. d }
 
 -- ---- written and read
-pub length-written : (m : List ModelRow) (i : ℕ) (r : ModelRow) → length (written m i r) ≡ length m
-unfolding written
-length-written m i r = length-set m i r
+pub length-with-row : (m : List ModelRow) (i : ℕ) (r : ModelRow) → length (withRow m i r) ≡ length m
+unfolding withRow
+length-with-row m i r = length-set m i r
 
-pub read-same : (m : List ModelRow) (i : ℕ) (r : ModelRow) → i < length m → rowAt (written m i r) i ≡ r
-unfolding rowAt written
+pub read-same : (m : List ModelRow) (i : ℕ) (r : ModelRow) → i < length m → rowAt (withRow m i r) i ≡ r
+unfolding rowAt withRow
 read-same m i r h = getD-set-same m i r empty h
 
-pub read-other : (m : List ModelRow) (i j : ℕ) (r : ModelRow) → (j ≡ i → ⊥) → rowAt (written m i r) j ≡ rowAt m j
-unfolding rowAt written
+pub read-other : (m : List ModelRow) (i j : ℕ) (r : ModelRow) → (j ≡ i → ⊥) → rowAt (withRow m i r) j ≡ rowAt m j
+unfolding rowAt withRow
 read-other m i j r h = getD-set-other m i j r empty h
 
 -- ---- a property of each element survives a `set`
@@ -61,6 +61,6 @@ pub fresh-sound : Sound fresh
 unfolding fresh rowAt
 fresh-sound = record { count = length-replicate rowCount empty; each-row = λ i. subst SoundRow (sym (all-replicate rowCount i empty)) empty-row }
 
-pub written-sound : (s : State) (i : ℕ) (r : ModelRow) → Sound s → SoundRow r → Sound (withRows s (written (s .rows) i r))
-unfolding rowAt written
-written-sound s i r h p = record { count = length-set (s .rows) i r ∙ h .count; each-row = all-set SoundRow (s .rows) i r empty (h .each-row) p }
+pub with-row-sound : (s : State) (i : ℕ) (r : ModelRow) → Sound s → SoundRow r → Sound (withRows s (withRow (s .rows) i r))
+unfolding rowAt withRow
+with-row-sound s i r h p = record { count = length-set (s .rows) i r ∙ h .count; each-row = all-set SoundRow (s .rows) i r empty (h .each-row) p }

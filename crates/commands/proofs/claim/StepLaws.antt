@@ -4,7 +4,7 @@ use native.Mathlib.Omega.{arith}
 use mathlib.Core.Path.{_≡_, refl, sym, ap, _∙_, subst}
 use lib.ListN.{length}
 use Rattle.commands.specs.declared.command.Command.{Command}
-use Rattle.commands.specs.Rows.{ModelRow, State, direction, rowAt, written}
+use Rattle.commands.specs.Rows.{ModelRow, State, direction, rowAt, withRow}
 use Rattle.commands.specs.Answers.{refused}
 use Rattle.commands.specs.Commands.{entryAt}
 use Rattle.commands.specs.Effects.{ModelEffect, Puts, PutsTwo, Tells, effectOf}
@@ -13,9 +13,9 @@ use Rattle.commands.specs.Claim.{Sound, SoundRow, sourcesAt, refusalAt, 
 use Rattle.commands.proofs.ConditionLaws.{Done, done}
 use Rattle.commands.proofs.CommandLaws.{InRange, target-in-range, effect-done, effect-refused}
 use Rattle.commands.proofs.claim.RefusalLaws.{Directed, directed}
-use Rattle.commands.proofs.claim.RowLaws.{written-sound, length-written, read-same, read-other}
+use Rattle.commands.proofs.claim.RowLaws.{with-row-sound, length-with-row, read-same, read-other}
 use Rattle.commands.proofs.claim.SourceLaws.{Held, held}
-use Rattle.commands.proofs.claim.PairRows.{PairTaken, firstTaken, secondTaken, effect-24, pair-taken}
+use Rattle.commands.proofs.claim.PairRows.{PairTaken, firstDirection, secondDirection, effect-24, pair-taken}
 use Rattle.commands.proofs.claim.AssertedLaws.{asserted}
 use Rattle.commands.proofs.claim.EffectLaws.{SoundEffect, effect-sound}
 
@@ -31,8 +31,8 @@ step-refused s c k e = ap (applied s (c .t)) (effect-refused c _ _ k e)
 -- ---- what an effect leaves
 applied-sound : (s : State) (t : ℕ) (e : ModelEffect) → Sound s → SoundEffect e → Sound (applied s t e .state)
 unfolding applied
-applied-sound s t (Puts r) h p = written-sound s t r h p
-applied-sound s t (PutsTwo r q) h p = written-sound (withRows s (written (s .rows) t r)) (t + 1) q (written-sound s t r h (p .0)) (p .1)
+applied-sound s t (Puts r) h p = with-row-sound s t r h p
+applied-sound s t (PutsTwo r q) h p = with-row-sound (withRows s (withRow (s .rows) t r)) (t + 1) q (with-row-sound s t r h (p .0)) (p .1)
 applied-sound s t (Tells x) h p = h
 
 applied-answers : (s : State) (t : ℕ) (e : ModelEffect) → SoundEffect e → applied s t e .answer .refusal ≡ 0
@@ -47,8 +47,8 @@ two-rows :
     → (rowAt (applied s t (PutsTwo p q) .state .rows) t ≡ p) × (rowAt (applied s t (PutsTwo p q) .state .rows) (t + 1) ≡ q)
 unfolding applied
 two-rows s t p q h = (
-  read-other (written (s .rows) t p) (t + 1) t q (λ e. omega (arith, e)) ∙ read-same (s .rows) t p (omega arith),
-  read-same (written (s .rows) t p) (t + 1) q (subst (λ (k : ℕ). t + 1 < k) (sym (length-written (s .rows) t p)) h),
+  read-other (withRow (s .rows) t p) (t + 1) t q (λ e. omega (arith, e)) ∙ read-same (s .rows) t p (omega arith),
+  read-same (withRow (s .rows) t p) (t + 1) q (subst (λ (k : ℕ). t + 1 < k) (sym (length-with-row (s .rows) t p)) h),
 )
 
 module _ (s : State) (c : Command) (sound : Sound s) where
@@ -71,7 +71,7 @@ module _ (s : State) (c : Command) (sound : Sound s) where
     done-answers : stepOf s c .answer .refusal ≡ 0
     done-answers = ap (λ (o : Stepped State). o .answer .refusal) (step-done s c e) ∙ applied-answers s (c .t) _ done-effect
 
-    done-pair : c .number ≡ 24 → PairTaken (sourcesAt s c .a .numbers) (firstTaken (sourcesAt s c)) (secondTaken (sourcesAt s c))
+    done-pair : c .number ≡ 24 → PairTaken (sourcesAt s c .a .numbers) (firstDirection (sourcesAt s c)) (secondDirection (sourcesAt s c))
     done-pair is =
         let there = subst (λ (n : ℕ). Held n (entryAt n) (sourcesAt s c)) is (held c _ _ row-a row-b is-done) in
         let seven = subst (λ (n : ℕ). Directed n (sourcesAt s c)) is (directed (c .number) (sourcesAt s c) (is-done .directed)) in
@@ -79,8 +79,8 @@ module _ (s : State) (c : Command) (sound : Sound s) where
 
     done-orthogonal : c .number ≡ 24 → Orthogonal s (stepOf s c .state) c
     done-orthogonal is =
-        let first = direction (firstTaken (sourcesAt s c)) in
-        let second = direction (secondTaken (sourcesAt s c)) in
+        let first = direction (firstDirection (sourcesAt s c)) in
+        let second = direction (secondDirection (sourcesAt s c)) in
         let written-two = effect-24 c (sourcesAt s c) is in
         let room = subst (InRange (c .t)) (effect-done c _ _ e ∙ written-two) (target-in-range c _ _) in
         let rows = two-rows s (c .t) first second (omega (arith, sound .count, room)) in
@@ -101,8 +101,8 @@ module _ (s : State) (c : Command) (sound : Sound s) where
       go zero e = done-sound e
       go (suc k) e = subst (λ (o : Stepped State). Sound (o .state)) (sym (step-refused s c k e)) sound
 
-  step-told : stepOf s c .answer .refusal ≡ refusalAt s c
-  step-told = go (refusalAt s c) refl
+  step-refusal : stepOf s c .answer .refusal ≡ refusalAt s c
+  step-refusal = go (refusalAt s c) refl
     where
       go : (k : ℕ) → refusalAt s c ≡ k → stepOf s c .answer .refusal ≡ k
       go zero e = done-answers e
@@ -110,4 +110,4 @@ module _ (s : State) (c : Command) (sound : Sound s) where
 
   pub step-well : Well s c
   step-well =
-      record { told = step-told; kept = step-refused s c; orthogonal = done-orthogonal; asserted = λ e. asserted c _ _ row-a row-b (is-done e) }
+      record { refused-exactly = step-refusal; kept = step-refused s c; orthogonal = done-orthogonal; asserted = λ e. asserted c _ _ row-a row-b (is-done e) }

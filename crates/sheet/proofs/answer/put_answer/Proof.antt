@@ -8,7 +8,7 @@ returns : tie.Need-returns
 unfolding answerOf
 returns c =
     simp (
-      ← c .before .before .put-six .ensures,
+      ← c .before .before .put-numbers .ensures,
       c .before .before .before .before .before .x .given .1,
     )
 
@@ -16,7 +16,7 @@ returns-2 : tie.Need-returns-2
 unfolding answerOf
 returns-2 c =
     simp (
-      ← c .before .before .put-six2 .ensures,
+      ← c .before .before .put-numbers2 .ensures,
       ← c .before .before .before .to-bits3 .ensures,
       ← c .before .before .before .before .to-bits2 .ensures,
       ← c .before .before .before .before .before .to-bits .ensures,
@@ -28,7 +28,7 @@ returns-3 : tie.Need-returns-3
 unfolding answerOf
 returns-3 c =
     simp (
-      ← c .before .before .put-six3 .ensures,
+      ← c .before .before .put-numbers3 .ensures,
       ← c .before .before .before .to-bits4 .ensures,
       c .before .before .before .before .before .before .x3 .given .1,
     )
@@ -37,7 +37,7 @@ returns-4 : tie.Need-returns-4
 unfolding answerOf
 returns-4 c =
     simp (
-      ← c .before .before .put-six4 .ensures,
+      ← c .before .before .put-numbers4 .ensures,
       c .before .before .before .before .before .x4 .given .1,
     )
 

@@ -2,7 +2,7 @@
 use mathlib.Core.Path.{_≡_, _∙_}
 use native.Mathlib.Omega.{arith}
 use lib.ListN.{length, take, length-take}
-use Rattle.stream.proofs.AnswerLaws.{end-none, end-short, end-told}
+use Rattle.stream.proofs.AnswerLaws.{end-none, end-short, end-answered}
 use borrow.Author.Needs.{needs}
 use Rattle.stream.proofs.Stream.ended.Statement.{statement}
 use Rattle.stream.proofs.Stream.ended.Tie as tie
@@ -23,7 +23,7 @@ returns-2 : tie.Need-returns-2
 returns-2 c = end-short _ _ (some (c .before)) (c .if2 .taken)
 
 returns-3 : tie.Need-returns-3
-returns-3 c = let at-if = c .before .before .before .before .before in end-told _ _ (some (at-if .before)) _ (at-if .if2 .left) (c .before .before .tell .ensures)
+returns-3 c = let at-if = c .before .before .before .before .before in end-answered _ _ (some (at-if .before)) _ (at-if .if2 .left) (c .before .before .put-line .ensures)
 
 pub ended-spec : {M : Type 1} → statement M
 ended-spec = tie.close (tie.spec returns returns-2 (λ c. search needs) (λ c κs. search needs) (λ c. search needs) returns-3)

@@ -1,6 +1,6 @@
 -- `stream::Stream::feed` meets its contract. Assumes nothing.
--- What holds at the loop's test (`Turning`): the first i bytes are fed, `put` is the length of their answers, `out` is these answers and then what was there, and
--- of the bytes behind them so many are taken as the room that is left allows. It ends, since the bytes that are left grow fewer.
+-- What holds at the loop's test (`Turning`): the first i bytes are fed, `produced` is the length of their answers, `out` is these answers and then what was there, and
+-- of the bytes behind them so many are consumed as the room that is left allows. It ends, since the bytes that are left grow fewer.
 use borrow.Author.Needs.{needs}
 use Prim.Native.Nat.{_-_}
 use native.Mathlib.Omega.{arith}
@@ -9,17 +9,17 @@ use lib.ListN.{length, take}
 use lib.Seq.{length-take-le}
 use Rattle.stream.specs.Stream.{held}
 use Rattle.stream.specs.Turns.{IsRun}
-use Rattle.stream.proofs.TakenLaws.{ends-count}
+use Rattle.stream.proofs.ConsumedLaws.{ends-count}
 use Rattle.stream.proofs.FeedLaws.{take-min, length-feeding}
-use Rattle.stream.proofs.TurnLaws.{Turning, step-told, turning-none, turned-full, turned-all, turn-run, turn-ill, turn-push, turn-full}
+use Rattle.stream.proofs.TurnLaws.{Turning, step-answered, turning-none, turned-full, turned-all, turn-run, turn-ill, turn-push, turn-full}
 use Rattle.stream.proofs.Stream.feed.Statement.{statement}
 use Rattle.stream.proofs.Stream.feed.Tie as tie
 
 abbrev Inv-loop : tie.InvT-loop
-Inv-loop state₀ bytes out₀ line₀ len₀ put₀ i₀ state out line len put i = Turning (held state₀ (take len₀ line₀)) bytes out₀ out (length state₀) state line len put i
+Inv-loop state₀ bytes out₀ line₀ len₀ produced₀ i₀ state out line len produced i = Turning (held state₀ (take len₀ line₀)) bytes out₀ out (length state₀) state line len produced i
 
 abbrev μ-loop : tie.MeasureT-loop
-μ-loop state₀ bytes out₀ line₀ len₀ put₀ i₀ state out line len put i = length bytes - i
+μ-loop state₀ bytes out₀ line₀ len₀ produced₀ i₀ state out line len produced i = length bytes - i
 
 loop-holds : tie.Need-loop-holds Inv-loop μ-loop
 loop-holds c =
@@ -49,8 +49,8 @@ slice-aggregate-hear c =
     sym (length-take-le (loop .len) (loop .line) (omega (arith, loop .inv .short, loop .inv .long)))
 
 -- what `hear` promised of a line that gives a command
-heard : (c : tie.After-took Inv-loop μ-loop) → let loop = c .before .before .before .before .before .before .before .before .loop in IsRun (c .before .before .before .before .before .before .before .before .before .before .before .before .before .before .args .bytes .now) (loop .i) (take (loop .len) (loop .line)) (c .before .before .before .hear .last .1 .1 .1 .0) (c .took .given .0 .0)
-heard c = rw (c .took .given .1) at (c .before .before .before .hear .ensures)
+heard : (c : tie.After-consumed Inv-loop μ-loop) → let loop = c .before .before .before .before .before .before .before .before .loop in IsRun (c .before .before .before .before .before .before .before .before .before .before .before .before .before .before .args .bytes .now) (loop .i) (take (loop .len) (loop .line)) (c .before .before .before .hear .last .1 .1 .1 .0) (c .consumed .given .0 .0)
+heard c = rw (c .consumed .given .1) at (c .before .before .before .hear .ensures)
 
 add-i : tie.Need-add-i Inv-loop μ-loop
 add-i c = let r = heard (c .before .before .before .before .before .before .before .before .before .before .before .before .before) in omega (arith, c .before .before .before .before .before .before .before .before .before .before .before .before .before .before .before .before .before .before .before .before .before .before .before .before .before .before .before .good .1 .1 .0, r .ends .part)
@@ -60,16 +60,16 @@ loop-less c = let r = heard (c .before .before .before .before .before .before .
 
 loop-again : tie.Need-loop-again Inv-loop μ-loop
 loop-again c =
-    let at-took = c .before .before .before .before .before .before .before .before .before .before .before .before .before in
-    let at-if = at-took .before .before .before .before .before .before in
-    turn-run (at-if .before .before .loop .inv) (at-if .if1 .left) (heard at-took) _ _ _ (search needs) (step-told _ _ _ _ _ _ refl (c .before .before .before .before .before .before .before .before .step-at .ensures)) (c .before .before .tell .ensures)
+    let at-consumed = c .before .before .before .before .before .before .before .before .before .before .before .before .before in
+    let at-if = at-consumed .before .before .before .before .before .before in
+    turn-run (at-if .before .before .loop .inv) (at-if .if1 .left) (heard at-consumed) _ _ _ (search needs) (step-answered _ _ _ _ _ _ refl (c .before .before .before .before .before .before .before .before .step-at .ensures)) (c .before .before .put-line .ensures)
 
 loop-again-2 : tie.Need-loop-again-2 Inv-loop μ-loop
 loop-again-2 c =
     let at-told = c .before .before .before .before .before in
     let at-hear = at-told .before .before .before in
     let at-if = at-hear .before .before .before in
-    turn-ill (at-if .before .before .loop .inv) (at-if .if1 .left) (at-if .before .loop-test .taken) (rw (at-told .enum-told .given .1) at (at-hear .hear .ensures)) _ (c .before .before .tell2 .ensures)
+    turn-ill (at-if .before .before .loop .inv) (at-if .if1 .left) (at-if .before .loop-test .taken) (rw (at-told .enum-told .given .1) at (at-hear .hear .ensures)) _ (c .before .before .put-line2 .ensures)
 
 loop-again-3 : tie.Need-loop-again-3 Inv-loop μ-loop
 loop-again-3 c =

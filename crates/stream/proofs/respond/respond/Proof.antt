@@ -7,7 +7,7 @@ use Rattle.sheet.specs.Words.{lentStep}
 use Rattle.stream.specs.Responses.{lineResponse}
 use Rattle.stream.specs.Turns.{answerFrom}
 use Rattle.stream.proofs.HearLaws.{read-all, read-none}
-use Rattle.stream.proofs.ResponseLaws.{respond-short, respond-told, answer-ill, answer-ran}
+use Rattle.stream.proofs.ResponseLaws.{respond-short, respond-answered, answer-ill, answer-ran}
 use borrow.Author.Needs.{needs}
 use Rattle.stream.proofs.respond.respond.Statement.{statement}
 use Rattle.stream.proofs.respond.respond.Tie as tie
@@ -32,17 +32,17 @@ answered c =
       | inr p ↦ rw (p .1, p .2) (answer-ill (start .args .state .now) (start .args .line .now) (read-none _ _ refl (sym (p .0 .left) ∙ read .0)))
     ]
 
-slice-aggregate-tell : tie.Need-slice-aggregate-tell
-slice-aggregate-tell c = sym (six-long (c .before .before))
+slice-aggregate-put-line : tie.Need-slice-aggregate-put-line
+slice-aggregate-put-line c = sym (six-long (c .before .before))
 
-tell-requires : tie.Need-tell-requires
-tell-requires c κs = let n = six-long (c .before .before) in search needs
+put-line-requires : tie.Need-put-line-requires
+put-line-requires c κs = let n = six-long (c .before .before) in search needs
 
 same-length : tie.Need-same-length
 same-length c = state-long (c .before .before .before .before .before)
 
 returns-2 : tie.Need-returns-2
-returns-2 c = respond-told _ _ _ _ (c .before .before .before .before .before .if2 .six) _ (c .before .before .before .before .before .before .before .before .before .if1 .left) (answered (c .before .before .before .before .before)) (c .before .before .tell .ensures)
+returns-2 c = respond-answered _ _ _ _ (c .before .before .before .before .before .if2 .six) _ (c .before .before .before .before .before .before .before .before .before .if1 .left) (answered (c .before .before .before .before .before)) (c .before .before .put-line .ensures)
 
 pub respond-spec : {M : Type 1} → statement M
 respond-spec =
@@ -55,8 +55,8 @@ respond-spec =
     (λ c. search needs)
     (λ c κs. search needs)
     (λ c. search needs)
-    slice-aggregate-tell
-    tell-requires
+    slice-aggregate-put-line
+    put-line-requires
     (λ c. search needs)
     same-length
     (λ c. search needs)

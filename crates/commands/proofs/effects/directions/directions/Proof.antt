@@ -1,7 +1,7 @@
 -- `commands::effects::directions::directions` meets its contract. Assumes nothing.
 use Rattle.commands.specs.Refusals.{isNothing, lacksDirection, notFinite}
 use Rattle.commands.specs.Answers.{answerOf}
-use Rattle.commands.specs.Effects.{effectBy, effectOf, taken, unless, settled}
+use Rattle.commands.specs.Effects.{effectBy, effectOf, directionIn, unless, settled}
 use borrow.Author.Needs.{needs}
 use Rattle.commands.proofs.effects.directions.directions.Statement.{statement}
 use Rattle.commands.proofs.effects.directions.directions.Tie as tie
@@ -21,7 +21,7 @@ returns-2 c =
     )
 
 returns-3 : tie.Need-returns-3
-unfolding effectBy settled unless lacksDirection notFinite isNothing effectOf taken
+unfolding effectBy settled unless lacksDirection notFinite isNothing effectOf directionIn
 returns-3 c =
     simp (
       c .before .e .given .1,

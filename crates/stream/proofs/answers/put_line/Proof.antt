@@ -1,17 +1,17 @@
--- `stream::tell::tell` meets its contract. Assumes nothing.
+-- `stream::answers::put_line` meets its contract. Assumes nothing.
 use Rattle.stream.specs.Turns.{answerFrom}
-use Rattle.stream.proofs.AnswerLaws.{told-part}
+use Rattle.stream.proofs.AnswerLaws.{answered-part}
 use borrow.Author.Needs.{needs}
-use Rattle.stream.proofs.tell.tell.Statement.{statement}
-use Rattle.stream.proofs.tell.tell.Tie as tie
+use Rattle.stream.proofs.answers.put_line.Statement.{statement}
+use Rattle.stream.proofs.answers.put_line.Tie as tie
 
 returns : tie.Need-returns
 returns c =
     let start = c .before .before .before .before .before .before .before .before .before .before .before .before in
-    told-part (start .args .out .now) _ (answerFrom (start .args .six .now)) (start .args .at) (start .pre .0) (c .before .before .put-six .ensures)
+    answered-part (start .args .out .now) _ (answerFrom (start .args .six .now)) (start .args .at) (start .pre .0) (c .before .before .put-six .ensures)
 
-pub tell-spec : {M : Type 1} → statement M
-tell-spec =
+pub put-line-spec : {M : Type 1} → statement M
+put-line-spec =
     tie.close
     (tie.spec
     (λ c. search needs)
