@@ -1,0 +1,3 @@
+-- The laws and proofs of crate bench, file by file.
+pub mod FeedingLaws
+pub mod ReadLaws

@@ -1,0 +1,35 @@
+-- `bench::answer::answer_some` meets its contract, if the C library's `write` keeps its own.
+use borrow.Author.Needs.{needs}
+use Prim.Native.Nat.{_≤_}
+use mathlib.Core.Path.{_≡_, sym}
+use native.Mathlib.Omega.{arith}
+use lib.ListN.{length}
+use lib.Seq.{length-take-le}
+use Rattle.stream.proofs.FedLaws.{produced-fits}
+use Rattle.bench.proofs.answer.answer_some.Statement.{statement}
+use Rattle.bench.proofs.answer.answer_some.Tie as tie
+
+fits : (c : tie.After-feed) → c .feed .result .produced ≤ length (c .feed .last .1 .1 .1 .0)
+fits c = let kept = c .feed .kept .1 .1 .1 .0 in omega (arith, kept, produced-fits _ _ _ _ _ (c .feed .ensures) kept)
+
+slice-aggregate-answers : tie.Need-slice-aggregate-answers
+slice-aggregate-answers c =
+    let at-feed = c .before .before .before .before .before .before in
+    sym (length-take-le (at-feed .feed .result .produced) (at-feed .feed .last .1 .1 .1 .0) (fits at-feed))
+
+returns : tie.Need-returns
+returns c =
+    let at-feed = c .before .before .before .before .before .before .before in
+    rw (length-take-le (at-feed .feed .result .produced) (at-feed .feed .last .1 .1 .1 .0) (fits at-feed)) (at-feed .feed .ensures)
+
+pub answer-some-spec : {M : Type 1} → statement M
+answer-some-spec =
+    tie.close
+    (tie.spec
+    (λ c κs. search needs)
+    (λ c. fits (c .before .before .before .before .before))
+    slice-aggregate-answers
+    (λ c κs. search needs)
+    (λ c. search needs)
+    (λ c. search needs)
+    returns)
