@@ -1,7 +1,7 @@
 -- `bench::answer::answer_some` meets its contract, if the C library's `write` keeps its own.
 use borrow.Author.Needs.{needs}
 use Prim.Native.Nat.{_≤_}
-use mathlib.Core.Path.{_≡_, sym}
+use mathlib.Core.Path.{sym}
 use native.Mathlib.Omega.{arith}
 use lib.ListN.{length}
 use lib.Seq.{length-take-le}
@@ -11,11 +11,6 @@ use Rattle.bench.proofs.answer.answer_some.Tie as tie
 
 fits : (c : tie.After-feed) → c .feed .result .produced ≤ length (c .feed .last .1 .1 .1 .0)
 fits c = let kept = c .feed .kept .1 .1 .1 .0 in omega (arith, kept, produced-fits _ _ _ _ _ (c .feed .ensures) kept)
-
-slice-aggregate-answers : tie.Need-slice-aggregate-answers
-slice-aggregate-answers c =
-    let at-feed = c .before .before .before .before .before .before in
-    sym (length-take-le (at-feed .feed .result .produced) (at-feed .feed .last .1 .1 .1 .0) (fits at-feed))
 
 returns : tie.Need-returns
 returns c =
@@ -27,8 +22,8 @@ answer-some-spec =
     tie.close
     (tie.spec
     (λ c κs. search needs)
-    (λ c. fits (c .before .before .before .before .before))
-    slice-aggregate-answers
+    (λ c. let f = fits (c .before .before .before .before .before) in search needs)
+    (λ c. let f = fits (c .before .before .before .before .before .before) in sym (length-take-le _ (c .before .before .before .before .before .before .feed .last .1 .1 .1 .0) (search needs)))
     (λ c κs. search needs)
     (λ c. search needs)
     (λ c. search needs)
