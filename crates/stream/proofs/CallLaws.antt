@@ -26,6 +26,11 @@ use Rattle.stream.proofs.PieceLaws.{feed-append-held, feed-append-text}
 use Rattle.stream.proofs.InputLaws.{inputs-answered}
 use Rattle.stream.proofs.LentFeedLaws.{lent-as-model}
 
+-- what an input comes to, by any way of doing one command: what is written, with the answer line of its end, and the state after it
+record AllFed {S : Type 0} (step : S → Command → Stepped S) (h : Held S) (input output : List ℕ) (end : S) : Type 0 where
+  text : output ≡ feedOf step h input .text ++ endOf (feedOf step h input .held .text)
+  state : end ≡ feedOf step h input .held .state
+
 -- ---- one call
 -- `feed` leaves what the bytes that it consumes come to, and writes their answer lines
 module _ {S : Type 0} (step : S → Command → Stepped S) (h : Held S) (bytes before : List ℕ) (o : FedInto S) (e : o ≡ fedInto step h bytes before) where
@@ -38,6 +43,19 @@ module _ {S : Type 0} (step : S → Command → Stepped S) (h : Held S) (bytes b
   fed-text =
       let text = feedOf step h (take (takenOf (length before) bytes) bytes) .text in
       rw e (take-at text (drop (length text) before) (length text) refl)
+
+  -- and the rest of the input comes behind them
+  fed-more : (input output : List ℕ) (end : S) → AllFed step (o .held) input output end
+      → AllFed step h (take (o .took) bytes ++ input) (take (o .put) (o .out) ++ output) end
+  fed-more input output end f =
+      let l = take (o .took) bytes in
+      let rest = feedOf step (o .held) input in
+      record {
+        text =
+            rw (feed-append-held step h l input, feed-append-text step h l input, ← fed-held, ← fed-text, f .text)
+            (sym (append-assoc (take (o .put) (o .out)) (rest .text) (endOf (rest .held .text))));
+        state = rw (feed-append-held step h l input, ← fed-held) (f .state);
+      }
 
 -- `ended` writes the answer line of the bytes that are left, or nothing where 9 refuses it
 module _ (text before : List ℕ) (o : EndedInto) (e : o ≡ endedOf text before) where
@@ -57,33 +75,17 @@ module _ (text before : List ℕ) (o : EndedInto) (e : o ≡ endedOf text before
   ended-last k = rw (ne-eqb _ _ k) at ended-text
 
 -- ---- calls one after another
--- what the bytes consumed come to: the words, and what is written
-record AllFed (h : Held (List ℕ)) (input output w′ : List ℕ) : Type 0 where
-  state : w′ ≡ feedOf lentStep h input .held .state
-  text : output ≡ feedOf lentStep h input .text ++ endOf (feedOf lentStep h input .held .text)
-
-calls-fed : {w : List ℕ} {s : Stream} {input output w′ : List ℕ} → Calls w s input output w′ → AllFed (held w (textOf s)) input output w′
+calls-fed : {w : List ℕ} {s : Stream} {input output w′ : List ℕ} → Calls w s input output w′ → AllFed lentStep (held w (textOf s)) input output w′
 unfolding feedOf
-calls-fed {w} {s} (feed {input = input} c e r) =
-    let h : Held (List ℕ) = held w (textOf s) in
-    let bytes = take (c .result .took) (c .bytes) in
-    let o = fedBy (c .words) (c .result) (c .after) in
-    let now = fed-held lentStep h (c .bytes) (c .before) o e in
-    let then = calls-fed r in
-    let rest = feedOf lentStep (o .held) input in
-    record {
-      state = rw (feed-append-held lentStep h bytes input, ← now) (then .state);
-      text =
-          rw (feed-append-held lentStep h bytes input, feed-append-text lentStep h bytes input, ← now, ← fed-text lentStep h (c .bytes) (c .before) o e, then .text)
-          (sym (append-assoc (take (o .put) (o .out)) (rest .text) (endOf (rest .held .text))));
-    }
+calls-fed {w} {s} {w′ = w′} (feed {input = input} {output = output} c e r) =
+    fed-more lentStep (held w (textOf s)) (c .bytes) (c .before) (fedBy (c .words) (c .result) (c .after)) e input output w′ (calls-fed r)
 calls-fed {s = s} (short c e k r) = rw (ended-short (textOf s) (c .before) (endedBy (c .result) (c .after)) e k) (calls-fed r)
-calls-fed {s = s} (ended c e k) = record { state = refl; text = ended-last (textOf s) (c .before) (endedBy (c .result) (c .after)) e k }
+calls-fed {s = s} (ended c e k) = record { text = ended-last (textOf s) (c .before) (endedBy (c .result) (c .after)) e k; state = refl }
 
 -- ---- demand 3
 pub calls-answered : CallsAnswered
 calls-answered w s input output w′ l none c =
-    let f = subst (λ (t : List ℕ). AllFed (held w t) input output w′) none (calls-fed c) in
+    let f = subst (λ (t : List ℕ). AllFed lentStep (held w t) input output w′) none (calls-fed c) in
     let m = lent-as-model w [] input l in
     let a = inputs-answered (modelOf w) input in
     record {

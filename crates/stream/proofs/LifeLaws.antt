@@ -100,7 +100,7 @@ module _ (w : List ℕ) (c : LineCall) (calls : List LineCall) (w′ : List ℕ)
 lines-ran : {w w′ : List ℕ} {calls : List LineCall} → LineCalls w calls w′ → LinesRan w calls w′
 unfolding runBy
 lines-ran start = record { commands = []; life = over; words = refl }
-lines-ran {w} {w′} (next {c = c} {calls = calls} e r) = ran-more w c calls w′ e (lines-ran r)
+lines-ran {w} {w′} (next {calls = calls} c e r) = ran-more w c calls w′ e (lines-ran r)
 
 -- ---- demand 3
 lent-lived : (w : List ℕ) (calls : List LineCall) (w′ : List ℕ) → stateWords ≤ length w → LinesRan w calls w′ → Lived (modelOf w) w calls (modelOf w′)

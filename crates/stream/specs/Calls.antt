@@ -1,5 +1,6 @@
--- The calls for an input, however its caller cuts it: `feed`, one call after another, and `ended`. What they write is the answer lines of demand 3's list of
--- commands (document 01, "Lines": "The program reads standard input and answers each line, refused ones included; input without bytes gives no output").
+-- The calls for an input, however its caller cuts it: `feed`, one call after another, and `ended`. What they write is the answer line of each line, by demand 3's
+-- claim of the list of commands that the lines give (document 01, "Lines": "The program reads standard input and answers each line, refused ones included; input
+-- without bytes gives no output").
 use Prim.Native.Nat.{ℕ, _+_, _≤_, _<_}
 use mathlib.Core.Path.{_≡_}
 use mathlib.Core.List.{List, [], _++_}

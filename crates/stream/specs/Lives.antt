@@ -34,7 +34,7 @@ RespondKept w c = responded (c .words) (c .refusal) (c .after) ≡ respondOf len
 -- calls from the words w to the words w′, each on the words that the last one left
 pub data LineCalls : List ℕ → List LineCall → List ℕ → Type 0 where
   start : {w : List ℕ} → LineCalls w [] w
-  next : {w w′ : List ℕ} {c : LineCall} {calls : List LineCall} → RespondKept w c → LineCalls (c .words) calls w′ → LineCalls w (c ∷ calls) w′
+  next : {w w′ : List ℕ} {calls : List LineCall} (c : LineCall) → RespondKept w c → LineCalls (c .words) calls w′ → LineCalls w (c ∷ calls) w′
 
 -- ---- what they come to
 -- "9, fewer than 43 bytes lent for an answer line, the command not being run and no byte written"
