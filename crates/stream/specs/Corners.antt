@@ -30,14 +30,14 @@ use Rattle.stream.specs.Stream as Stream
 use Rattle.stream.specs.Inputs.{outputOf}
 
 -- the bytes of a line with its line feed
-abbrev line : String → List ℕ
+abbrev pub line : String → List ℕ
 line s = bytes s ++ (10 ∷ [])
 
 -- document 01's first two lines and their answer lines, and that of a line that 1 refuses
-abbrev point : List ℕ
+abbrev pub point : List ℕ
 point = line "  1  0  0  0 1077936128 1082130432          0"
 
-abbrev pointAnswer : List ℕ
+abbrev pub pointAnswer : List ℕ
 pointAnswer = line "  0  0  1 1077936128 1082130432          0"
 
 abbrev length : List ℕ
@@ -46,7 +46,7 @@ length = line " 26  0  0  0          0          0          0"
 abbrev lengthAnswer : List ℕ
 lengthAnswer = line "  0  0  3 1084227584          0          0"
 
-abbrev ill : List ℕ
+abbrev pub ill : List ℕ
 ill = line "  1  0  0          0          0          0"
 
 pub record Corners : Type 0 where
