@@ -17,9 +17,13 @@ pub record Freshened : Type 0 where
 abbrev pub freshened : List ℕ → ℕ → Freshened
 freshened w k = record { state = w; refusal = k }
 
--- zeros over a sheet's words; too few of them are left as they are, by 9
+-- zeros over a sheet's words, and those behind them as they were
+unfoldable pub freshWords : List ℕ → List ℕ
+freshWords w = replicate stateWords 0 ++ drop stateWords w
+
+-- too few words are left as they are, by 9
 unfoldable pub freshOf : List ℕ → Freshened
-freshOf w = cond (ltb (length w) stateWords) (freshened w lentTooShort) (freshened (replicate stateWords 0 ++ drop stateWords w) 0)
+freshOf w = cond (ltb (length w) stateWords) (freshened w lentTooShort) (freshened (freshWords w) 0)
 
 -- what enough words mean afterwards, whatever they held: "Fresh: all empty"
 abbrev pub FreshMeaning : Type 0
