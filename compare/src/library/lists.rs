@@ -72,7 +72,7 @@ impl Lists<'_> {
 }
 
 /// Why include/bench.h has a list refused.
-pub fn list_refusal(count: usize, lent: usize) -> Option<Refusal> {
+pub(super) fn list_refusal(count: usize, lent: usize) -> Option<Refusal> {
     if lent < count / COMMAND * ANSWER {
         Some(Refusal::Lent)
     } else if count % COMMAND != 0 {
@@ -83,7 +83,7 @@ pub fn list_refusal(count: usize, lent: usize) -> Option<Refusal> {
 }
 
 /// A part of a command.
-pub fn part(draw: &mut Draw) -> Vec<u32> {
+pub(super) fn part(draw: &mut Draw) -> Vec<u32> {
     let length = 1 + draw.below(COMMAND as u32 - 1);
     (0..length).map(|_| draw.below(ROWS)).collect()
 }

@@ -90,8 +90,8 @@ pub extern "C" fn bench_fresh(state: &mut [u32]) -> u32
     }
 }
 
-// Runs one command on the sheet that lies in the words, and writes its answer's six numbers to the first six of `answer`. Gives the answer's refusal; 9 where there are
-// fewer than six, and then nothing is run or written.
+// Runs one command on the sheet that lies in the words, and writes its answer's six numbers to the first six of `answer`. Gives the answer's refusal, which is 9 where the
+// words are too few for a sheet; 9 too where there are fewer than six places, and then nothing is run or written.
 #[no_mangle]
 pub extern "C" fn bench_step(
     state: &mut [u32],
@@ -110,8 +110,8 @@ pub extern "C" fn bench_step(
     sheet::step::step_at(state, &seven, 0, answer, 0)
 }
 
-// Runs the command of one line, which comes without its line feed, and writes its answer line over the first 43 bytes of `answer`. Gives the line's refusal; 9 where there
-// are fewer than 43, and then nothing is run or written.
+// Runs the command of one line, which comes without its line feed, and writes its answer line over the first 43 bytes of `answer`. Gives the answer's refusal, which is 9
+// where a command has too few words for a sheet; 9 too where there are fewer than 43 bytes, and then nothing is run or written.
 #[no_mangle]
 pub extern "C" fn bench_respond(state: &mut [u32], line: &[u8], answer: &mut [u8]) -> u32
     ensures { λ r. ⌜ responded (now (state .exit)) r (now (answer .exit)) ≡ respondOf lentStep (now (state .entry)) (now (line .entry)) (now (answer .entry)) ⌝ }
@@ -119,7 +119,7 @@ pub extern "C" fn bench_respond(state: &mut [u32], line: &[u8], answer: &mut [u8
     stream::respond::respond(state, line, answer)
 }
 
-// Runs a list of commands on the sheet that lies in the words, as `bench_run` does on a fresh one; 9 too where the words are too few for a sheet.
+// Runs a list of commands on the sheet that lies in the words, as `bench_run` does on a fresh one. Where the words are too few for a sheet, the list is refused by 9.
 #[no_mangle]
 pub extern "C" fn bench_run_on(state: &mut [u32], commands: &[u32], answers: &mut [u32]) -> u32
     ensures { λ r. ⌜ Runs (now (state .entry)) (now (commands .entry)) (now (answers .entry)) (now (state .exit)) (now (answers .exit)) r ⌝ }
