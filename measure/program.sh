@@ -3,6 +3,6 @@
 work=target/measure
 mkdir -p "$work"
 if [ -z "${BENCH:-}" ]; then
-    rt check bench >"$work/bench.log" 2>&1 || { cat "$work/bench.log" >&2; exit 2; }
+    compare/built check bench
     BENCH=target/bin/bench
 fi

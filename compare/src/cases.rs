@@ -24,8 +24,7 @@ pub fn cases(text: &'static str) -> Vec<Case> {
             continue;
         }
         let (command, answer) = line.split_once("=>").map_or((line, None), |(command, answer)| (command, Some(answer)));
-        let [number, t, a, b, u, v, w] = words(command);
-        let command = Command { number, t, a, b, values: [u, v, w] };
+        let command = Command::of(words(command));
         let answer = answer.map(|answer| {
             let [refusal, row, kind, x, y, z] = words(answer);
             Answer { refusal, row, kind, values: [x, y, z] }

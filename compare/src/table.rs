@@ -1,28 +1,12 @@
-//! The table of a sitting: how often each command had each outcome, and which outcomes it can have.
+//! The table of a sitting: how often each command had each outcome, and the worst values.
 
-use crate::sheet::{used, COMMANDS};
-use crate::tally::{Tally, ABOVE, MALFORMED, OUTCOMES};
+use crate::outcomes::{can_have, ABOVE, MALFORMED, OUTCOMES};
+use crate::sheet::COMMANDS;
+use crate::tally::Tally;
 use std::fmt;
 
 /// The outcomes in the order in which document 01 checks them.
 const ORDER: [usize; OUTCOMES] = [0, 1, 2, 3, 4, 5, 8, 7, 6];
-
-/// Whether a row of the table can have an outcome.
-pub fn can_have(row: usize, outcome: usize) -> bool {
-    match outcome {
-        1 => row == MALFORMED,
-        2 => row == ABOVE,
-        0 | 3 => row < ABOVE,
-        4 => (2..ABOVE).contains(&row),
-        5 => used(row as u32).is_some_and(|used| used.values > 0),
-        8 => row == 23,
-        // reflected and refracted directions and pairs always have a direction (laws M, R and P of crates/vector)
-        7 => matches!(row, 2 | 11 | 12 | 28),
-        // smaller, larger and whole numbers and components of finite ones are finite
-        6 => matches!(row, 3..=5 | 8..=15 | 19 | 20 | 25..=28),
-        _ => false,
-    }
-}
 
 /// The table, the worst values, and what should not have been.
 impl fmt::Display for Tally {

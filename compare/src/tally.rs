@@ -2,16 +2,9 @@
 
 use crate::check::Rust;
 use crate::exact::{dot, off_one, Size};
+use crate::outcomes::{can_have, ABOVE, MALFORMED, OUTCOMES};
 use crate::sheet::lines::{read, write_answer};
-use crate::sheet::{used, Answer, Command, Kind, Refusal, Sheet, COMMANDS};
-use crate::table::can_have;
-
-/// An outcome is 0 for a command done, or the number of its refusal.
-pub const OUTCOMES: usize = 9;
-
-/// The last two rows of the table: lines with a number above the last command, and malformed lines.
-pub const ABOVE: usize = COMMANDS as usize;
-pub const MALFORMED: usize = ABOVE + 1;
+use crate::sheet::{used, Answer, Command, Kind, Refusal, Sheet};
 
 /// Demand 3: squared lengths of directions are within 2^-18 of 1, dot products of 24's directions at most 2^-16.
 const LENGTH_BOUND: u32 = 18;
@@ -60,8 +53,8 @@ impl Tally {
     /// Answers the command of a line, or refuses a line that has none.
     pub fn answer(&mut self, command: Option<Command>) -> Answer {
         let Some(command) = command else {
-            self.counts[MALFORMED][Refusal::Line as usize] += 1;
-            return Answer::refused(Refusal::Line);
+            self.counts[MALFORMED][Refusal::Form as usize] += 1;
+            return Answer::refused(Refusal::Form);
         };
         let read = self.sheet.rows().get(command.a as usize).map(|row| row.numbers());
         let Some(answer) = self.sheet.try_run(&command) else {

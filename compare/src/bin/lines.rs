@@ -1,6 +1,6 @@
 //! The command that compare/lines calls: runs a sitting on the plain sheet, tells what it reached, and compares the program `bench` with it.
 
-use compare::check::{compare, Comparison, Rust};
+use compare::check::{compare, Comparison};
 use compare::sitting::Sitting;
 use compare::tally::Tally;
 use std::env;
@@ -41,19 +41,10 @@ fn run(words: &[&str]) -> Outcome {
     sitting.named(&mut named);
     let pieces = iter::once(named).chain(sitting.pieces(count.parse()?));
     let mut tally = Tally::default();
-    let equal = match env::var_os("BENCH") {
-        Some(program) => {
-            let comparison = compare(&mut Command::new(program), &mut tally, pieces, &SIZES)?;
-            print!("{tally}");
-            tell(&comparison)
-        }
-        None => {
-            pieces.for_each(|piece| tally.answer_all(&piece, &mut Vec::new()));
-            print!("{tally}");
-            println!("no program was compared: BENCH names none");
-            true
-        }
-    };
+    let program = env::var_os("BENCH").ok_or("BENCH names no program: compare/lines builds one")?;
+    let comparison = compare(&mut Command::new(program), &mut tally, pieces, &SIZES)?;
+    print!("{tally}");
+    let equal = tell(&comparison);
     Ok(if equal && tally.sound() { ExitCode::SUCCESS } else { ExitCode::FAILURE })
 }
 

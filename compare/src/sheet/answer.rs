@@ -31,14 +31,20 @@ impl Answer {
     pub fn whole(n: u32) -> Answer {
         Answer { refusal: 0, row: 0, kind: 4, values: [n, 0, 0] }
     }
+
+    /// The six numbers of the answer.
+    pub fn numbers(&self) -> [u32; 6] {
+        let [x, y, z] = self.values;
+        [self.refusal, self.row, self.kind, x, y, z]
+    }
 }
 
-/// Why a line or a command is refused.
+/// Why a line or a command is refused, or a call of the library.
 #[derive(Clone, Copy, Debug, PartialEq, Eq)]
 #[repr(u32)]
 pub enum Refusal {
-    /// Not 45 bytes before a line feed, or a field ill formed.
-    Line = 1,
+    /// Not 45 bytes before a line feed, or a field ill formed; a list that ends within a command.
+    Form = 1,
     /// A command above 32.
     Number = 2,
     /// A used row above 63, or t = 63 in 24.
@@ -53,4 +59,6 @@ pub enum Refusal {
     Direction = 7,
     /// In 23 `refract`'s k below zero.
     Reflection = 8,
+    /// Too little lent: bytes for an answer line, numbers for answers, words for a sheet.
+    Lent = 9,
 }

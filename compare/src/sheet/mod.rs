@@ -54,6 +54,24 @@ pub struct Command {
     pub values: [u32; 3],
 }
 
+impl Command {
+    /// The command of seven numbers.
+    pub fn of([number, t, a, b, u, v, w]: [u32; 7]) -> Command {
+        Command { number, t, a, b, values: [u, v, w] }
+    }
+
+    /// The seven numbers of the command.
+    pub fn numbers(&self) -> [u32; 7] {
+        let [u, v, w] = self.values;
+        [self.number, self.t, self.a, self.b, u, v, w]
+    }
+
+    /// The command that shows row a.
+    pub fn shows(a: u32) -> Command {
+        Command::of([32, 0, a, 0, 0, 0, 0])
+    }
+}
+
 /// The sheet.
 #[derive(Clone)]
 pub struct Sheet {

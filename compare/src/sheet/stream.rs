@@ -53,7 +53,7 @@ impl Stream {
     fn answer(&mut self, command: Option<Command>, out: &mut Vec<u8>) {
         let answer = match command {
             Some(command) => self.sheet.run(&command),
-            None => Answer::refused(Refusal::Line),
+            None => Answer::refused(Refusal::Form),
         };
         write_answer(&answer, out);
     }

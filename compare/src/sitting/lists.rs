@@ -12,12 +12,18 @@ const WIDE: u32 = 64;
 const LONGEST: [u32; 8] = [4, 64, 64, 64, 1000, 1000, 1000, 20_000];
 
 impl Sitting {
-    /// A list of at most `most` commands for a fresh sheet: few commands, or enough to fill all rows, or to fill them many times.
-    pub fn list(&mut self, most: u64) -> Vec<Command> {
+    /// Takes a fresh sheet, and tells how many commands it is to have, at most `most`: few, or enough to fill all rows, or to fill them many
+    /// times.
+    pub fn begin(&mut self, most: u64) -> u64 {
         self.sheet = Sheet::fresh();
         let longest = self.draw.one_of(&LONGEST);
-        let length = u64::from(1 + self.draw.below(longest));
-        (0..length.min(most)).map(|_| self.command_of_any_size()).collect()
+        u64::from(1 + self.draw.below(longest)).min(most)
+    }
+
+    /// A list of at most `most` commands for a fresh sheet.
+    pub fn list(&mut self, most: u64) -> Vec<Command> {
+        let length = self.begin(most);
+        (0..length).map(|_| self.command_of_any_size()).collect()
     }
 
     /// A list of so many commands as lines have them.
@@ -30,7 +36,8 @@ impl Sitting {
         (0..count).map(|_| next(self)).collect()
     }
 
-    fn command_of_any_size(&mut self) -> Command {
+    /// A command for the sheet as those before it leave it.
+    pub fn command_of_any_size(&mut self) -> Command {
         let mut command = self.command();
         if self.draw.once_in(WIDE) {
             let Command { number, t, a, b, .. } = &mut command;

@@ -1,11 +1,18 @@
-// The bench for Rust and C: functions on plain numbers, in a static library.
+// The bench for Rust and C, as a static library: functions on numbers, lists of commands, and a sheet that a program keeps in words of its own.
 ghost use mathlib.Core.Path.{_≡_};
+ghost use mathlib.Core.List.{[], _∷_};
 ghost use lib.Ieee as Ieee;
 ghost use lib.Ieee.{binary32};
 ghost use Rattle.scalar.specs.Root as Root;
 ghost use Rattle.scalar.specs.Fused as Fused;
 ghost use Rattle.scalar.specs.Integral as Integral;
-ghost use Rattle.sheet.specs.Run.{RunsAll};
+ghost use Rattle.commands.specs.Fields.{commandOf};
+ghost use Rattle.sheet.specs.Words.{stateWords, lentStep};
+ghost use Rattle.sheet.specs.Run.{steppedAt, lentStepAt, Runs, RunsAll};
+ghost use Rattle.stream.specs.Responses.{responded, respondOf};
+ghost use Rattle.capi.specs.Fresh.{freshened, freshOf};
+use commands::codes::LENT_TOO_SHORT;
+use sheet::rows::STATE_WORDS;
 
 #[no_mangle]
 pub extern "C" fn bench_sqrt(x: f32) -> f32
@@ -56,4 +63,66 @@ pub extern "C" fn bench_run(commands: &[u32], answers: &mut [u32]) -> u32
     ensures { λ r. ⌜ RunsAll (now (commands .entry)) (now (answers .entry)) (now (answers .exit)) r ⌝ }
 {
     sheet::run::run_all(commands, answers)
+}
+
+// How many words a sheet has.
+#[no_mangle]
+pub extern "C" fn bench_words() -> usize
+    ensures { λ r. ⌜ r ≡ stateWords ⌝ }
+{
+    STATE_WORDS
+}
+
+// Makes the first words a fresh sheet, and leaves those behind it. Gives 0, or 9 where there are too few words, and then none is touched.
+#[no_mangle]
+pub extern "C" fn bench_fresh(state: &mut [u32]) -> u32
+    ensures { λ r. ⌜ freshened (now (state .exit)) r ≡ freshOf (now (state .entry)) ⌝ }
+{
+    if state.len() < STATE_WORDS {
+        LENT_TOO_SHORT
+    } else {
+        let mut i: usize = 0;
+        while i < STATE_WORDS {
+            state[i] = 0;
+            i += 1;
+        }
+        0
+    }
+}
+
+// Runs one command on the sheet that lies in the words, and writes its answer's six numbers to the first six of `answer`. Gives the answer's refusal, which is 9 where the
+// words are too few for a sheet; 9 too where there are fewer than six places, and then nothing is run or written.
+#[no_mangle]
+pub extern "C" fn bench_step(
+    state: &mut [u32],
+    number: u32,
+    t: u32,
+    a: u32,
+    b: u32,
+    u: u32,
+    v: u32,
+    w: u32,
+    answer: &mut [u32],
+) -> u32
+    ensures { λ r. ⌜ steppedAt (now (state .exit)) (now (answer .exit)) r ≡ lentStepAt (now (state .entry)) (commandOf (number ∷ t ∷ a ∷ b ∷ u ∷ v ∷ w ∷ [])) (now (answer .entry)) 0 ⌝ }
+{
+    let seven = [number, t, a, b, u, v, w];
+    sheet::step::step_at(state, &seven, 0, answer, 0)
+}
+
+// Runs the command of one line, which comes without its line feed, and writes its answer line over the first 43 bytes of `answer`. Gives the answer's refusal, which is 9
+// where a command has too few words for a sheet; 9 too where there are fewer than 43 bytes, and then nothing is run or written.
+#[no_mangle]
+pub extern "C" fn bench_respond(state: &mut [u32], line: &[u8], answer: &mut [u8]) -> u32
+    ensures { λ r. ⌜ responded (now (state .exit)) r (now (answer .exit)) ≡ respondOf lentStep (now (state .entry)) (now (line .entry)) (now (answer .entry)) ⌝ }
+{
+    stream::respond::respond(state, line, answer)
+}
+
+// Runs a list of commands on the sheet that lies in the words, as `bench_run` does on a fresh one. Where the words are too few for a sheet, the list is refused by 9.
+#[no_mangle]
+pub extern "C" fn bench_run_on(state: &mut [u32], commands: &[u32], answers: &mut [u32]) -> u32
+    ensures { λ r. ⌜ Runs (now (state .entry)) (now (commands .entry)) (now (answers .entry)) (now (state .exit)) (now (answers .exit)) r ⌝ }
+{
+    sheet::run::run(state, commands, answers)
 }

@@ -1,42 +1,22 @@
 //! The command that compare/capi calls: compares the library of the crate `capi` with the Rust and with the plain sheet.
 
-mod library;
-mod lists;
+mod linked;
 mod scalars;
 mod timing;
 
+use compare::library::{kept, lists, Account};
+use compare::tally::Tally;
+use linked::LIBRARY;
 use std::env;
 use std::error::Error;
 use std::process::ExitCode;
 
 const USAGE: &str = "usage:
-  compare/capi SEED COUNT  COUNT calls of the functions on numbers, then lists of COUNT commands, by the seed
+  compare/capi SEED COUNT  COUNT calls of the functions on numbers, lists of COUNT commands from fresh sheets, and COUNT commands and
+                           lines on sheets that are kept, by the seed
   compare/capi --every     each function of one number on every number
   compare/capi --time TURNS COUNT
                            the time of a list of COUNT commands, beside the plain sheet's";
-
-/// How many differences are printed.
-const PRINTED: u64 = 20;
-
-/// The calls so far.
-#[derive(Default)]
-struct Account {
-    compared: u64,
-    different: u64,
-}
-
-impl Account {
-    /// Counts a call, and prints it if it is one of the first that are different.
-    fn note(&mut self, equal: bool, tell: impl FnOnce() -> String) {
-        self.compared += 1;
-        if !equal {
-            self.different += 1;
-            if self.different <= PRINTED {
-                println!("{}", tell());
-            }
-        }
-    }
-}
 
 fn main() -> ExitCode {
     let words: Vec<String> = env::args().skip(1).collect();
@@ -59,8 +39,12 @@ fn run(words: &[&str]) -> Result<ExitCode, Box<dyn Error>> {
         }
         [seed, count] => {
             let (seed, count) = (seed.parse()?, count.parse()?);
+            let mut tally = Tally::default();
             scalars::compare(&mut account, seed, count);
-            lists::compare(&mut account, seed, count)
+            lists::compare(&LIBRARY, &mut account, &mut tally, seed, count);
+            kept::compare(&LIBRARY, &mut account, &mut tally, seed, count);
+            print!("{tally}");
+            tally.sound()
         }
         _ => return Err(USAGE.into()),
     };

@@ -1,12 +1,12 @@
 //! The functions on numbers, held against the Rust's. A NaN counts as any NaN.
 
-use crate::library::{Scalar, SCALARS};
-use crate::Account;
+use crate::linked::{Scalar, SCALARS};
 use compare::calls::{find, Function, NAN};
 use compare::generate::arguments;
+use compare::library::Account;
 use compare::values::Draw;
 
-/// Calls the functions in turn, `count` times in all, with arguments as compare/run has them.
+/// Calls the functions in turn, `count` times in all, with arguments as compare/calls has them.
 pub fn compare(account: &mut Account, seed: u64, count: u64) {
     let mut draw = Draw::new(seed);
     let both = SCALARS.iter().map(|scalar| (scalar, rust_of(scalar)));

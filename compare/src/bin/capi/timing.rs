@@ -1,7 +1,7 @@
 //! The time of one long list of commands through `bench_run` and through the plain sheet, both from numbers in memory to numbers in memory.
 
-use crate::library;
-use crate::lists::{numbers_of, ANSWER, COMMAND};
+use crate::linked::LIBRARY;
+use compare::library::{ANSWER, COMMAND};
 use compare::sheet::{Command, Sheet};
 use compare::sitting::Sitting;
 use std::time::Instant;
@@ -10,14 +10,14 @@ use std::time::Instant;
 /// their answers are equal.
 pub fn time(turns: usize, count: usize) -> bool {
     let list = Sitting::new(1, 0).long_list(count);
-    let numbers: Vec<u32> = list.iter().flat_map(numbers_of).collect();
+    let numbers: Vec<u32> = list.iter().flat_map(Command::numbers).collect();
     let mut answers = [(); 2].map(|()| vec![0; count * ANSWER]);
     let mut times = [(); 2].map(|()| Vec::new());
     for turn in 0..turns {
         for which in [turn % 2, 1 - turn % 2] {
             let began = Instant::now();
             if which == 0 {
-                library::run(&numbers, &mut answers[0]);
+                (LIBRARY.run)(&numbers, &mut answers[0]);
             } else {
                 plain(&numbers, &mut answers[1]);
             }
@@ -27,7 +27,10 @@ pub fn time(turns: usize, count: usize) -> bool {
     let mut ratios: Vec<f64> = times[0].iter().zip(&times[1]).map(|(library, plain)| library / plain).collect();
     let [[library, library_median], [plain, plain_median]] = times.map(|mut taken| [least(&taken), median(&mut taken)]);
     println!("{count} commands, {turns} turns, ns a command");
-    println!("by the least time: plain {plain:.1}, library {library:.1}; the library takes {:.3} of the time of plain", library / plain);
+    println!(
+        "by the least time: plain {plain:.1}, library {library:.1}; the library takes {:.3} of the time of plain",
+        library / plain
+    );
     println!("by the median time: plain {plain_median:.1}, library {library_median:.1}; {:.3}", library_median / plain_median);
     println!("by the median of the ratios turn by turn: {:.3}", median(&mut ratios));
     answers[0] == answers[1]
@@ -37,10 +40,8 @@ pub fn time(turns: usize, count: usize) -> bool {
 fn plain(numbers: &[u32], answers: &mut [u32]) {
     let mut sheet = Sheet::fresh();
     for (seven, six) in numbers.chunks_exact(COMMAND).zip(answers.chunks_exact_mut(ANSWER)) {
-        let command = Command { number: seven[0], t: seven[1], a: seven[2], b: seven[3], values: [seven[4], seven[5], seven[6]] };
-        let answer = sheet.run(&command);
-        let [x, y, z] = answer.values;
-        six.copy_from_slice(&[answer.refusal, answer.row, answer.kind, x, y, z]);
+        let command = Command::of(seven.try_into().expect("it is seven numbers"));
+        six.copy_from_slice(&sheet.run(&command).numbers());
     }
 }
 

@@ -1,4 +1,4 @@
-//! The command that compare/run calls: compares a program with the Rust, writes samples, or answers lines by the Rust.
+//! The command that compare/calls calls: compares a program with the Rust, writes samples, or answers lines by the Rust.
 
 use compare::calls::{called_by, Function, FUNCTIONS};
 use compare::check::{compare, Difference};
@@ -12,9 +12,9 @@ use std::process::{Command, ExitCode};
 use std::time::Instant;
 
 const USAGE: &str = "usage:
-  compare/run SEED COUNT                         compare COUNT calls of probe with the Rust
-  compare/run --sample SEED COUNT CALLS ANSWERS  write calls to one file, the Rust's answers to another
-  compare/run --answer                           answer the call lines of standard input by the Rust
+  compare/calls SEED COUNT                         compare COUNT calls of probe with the Rust
+  compare/calls --sample SEED COUNT CALLS ANSWERS  write calls to one file, the Rust's answers to another
+  compare/calls --answer                           answer the call lines of standard input by the Rust
 options:
   --only NUMBERS                                 these functions alone, as in 1-15,43
   --program PROGRAM                              another program than probe";

@@ -1,0 +1,27 @@
+//! The outcomes that a command can have: done, or refused by one of the numbers of document 01.
+
+use crate::sheet::{used, COMMANDS};
+
+/// An outcome is 0 for a command done, or the number of its refusal.
+pub const OUTCOMES: usize = 9;
+
+/// The rows of a table of outcomes: one for each command, one for lines with a number above the last command, one for malformed lines.
+pub const ABOVE: usize = COMMANDS as usize;
+pub const MALFORMED: usize = ABOVE + 1;
+
+/// Whether a row of the table can have an outcome.
+pub fn can_have(row: usize, outcome: usize) -> bool {
+    match outcome {
+        1 => row == MALFORMED,
+        2 => row == ABOVE,
+        0 | 3 => row < ABOVE,
+        4 => (2..ABOVE).contains(&row),
+        5 => used(row as u32).is_some_and(|used| used.values > 0),
+        8 => row == 23,
+        // reflected and refracted directions and pairs always have a direction (laws M, R and P of crates/vector)
+        7 => matches!(row, 2 | 11 | 12 | 28),
+        // smaller, larger and whole numbers and components of finite ones are finite
+        6 => matches!(row, 3..=5 | 8..=15 | 19 | 20 | 25..=28),
+        _ => false,
+    }
+}

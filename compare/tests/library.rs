@@ -1,0 +1,103 @@
+//! The comparison of the library itself: the plain sheet called as include/bench.h has it is equal, and each mistake in a function is found.
+
+mod standin;
+
+use compare::library::{kept, lists, Account, Library};
+use compare::tally::Tally;
+use standin::{fresh, respond, run, run_on, step, FORM, LENT, RIGHT, WORDS};
+
+/// The calls compared and those that were different.
+fn compared(library: &Library) -> (u64, u64) {
+    let (mut account, mut tally) = (Account::default(), Tally::default());
+    lists::compare(library, &mut account, &mut tally, 1, 1000);
+    kept::compare(library, &mut account, &mut tally, 1, 2000);
+    (account.compared, account.different)
+}
+
+fn all_found(mistakes: &[(&str, Library)]) {
+    for (mistake, library) in mistakes {
+        assert!(compared(library).1 > 0, "{mistake} is not found");
+    }
+}
+
+/// Writes a number to a place of the memory, if there is the place. Gives 0, to be added to a result.
+fn put<T>(memory: &mut [T], place: usize, number: T) -> u32 {
+    if let Some(there) = memory.get_mut(place) {
+        *there = number;
+    }
+    0
+}
+
+#[test]
+fn the_plain_sheet_is_equal() {
+    let (compared, different) = compared(&RIGHT);
+    assert!(compared > 2000 && different == 0);
+}
+
+#[test]
+fn mistakes_of_fresh_are_found() {
+    all_found(&[
+        ("a word too many", Library { words: || WORDS + 1, ..RIGHT }),
+        ("no refusal", Library { fresh: |w| fresh(w) * 0, ..RIGHT }),
+        ("a word left", Library { fresh: |w| fresh(w) + put(w, WORDS - 1, 7), ..RIGHT }),
+        ("a word behind the sheet", Library { fresh: |w| fresh(w) + put(w, WORDS, 0), ..RIGHT }),
+    ]);
+}
+
+#[test]
+fn mistakes_of_step_are_found() {
+    let refused_changes = |w: &mut [u32], n: &[u32; 7], out: &mut [u32]| match step(w, n, out) {
+        0 => 0,
+        refusal => refusal + put(w, 1, 7),
+    };
+    all_found(&[
+        ("sources exchanged", Library { step: |w, &[n, t, a, b, x, y, z], out| step(w, &[n, t, b, a, x, y, z], out), ..RIGHT }),
+        ("the sheet left as it was", Library { step: |w, n, out| step(&mut w.to_vec(), n, out), ..RIGHT }),
+        (
+            "run without room",
+            Library { step: |w, n, out| if out.len() < 6 { step(w, n, &mut [0; 6]) } else { step(w, n, out) }, ..RIGHT },
+        ),
+        ("a seventh number", Library { step: |w, n, out| step(w, n, out) + put(out, 6, 0), ..RIGHT }),
+        ("a word behind the sheet", Library { step: |w, n, out| step(w, n, out) + put(w, WORDS, 0), ..RIGHT }),
+        ("a word where refused", Library { step: refused_changes, ..RIGHT }),
+        (
+            "no answer for few words",
+            Library { step: |w, n, out| if w.len() < WORDS { LENT } else { step(w, n, out) }, ..RIGHT },
+        ),
+        ("no refusal", Library { step: |w, n, out| step(w, n, out) * 0, ..RIGHT }),
+    ]);
+}
+
+#[test]
+fn mistakes_of_respond_are_found() {
+    all_found(&[
+        ("a byte 0 behind", Library { respond: |w, l, out| respond(w, l, out) + put(out, 43, 0), ..RIGHT }),
+        ("a line feed taken", Library { respond: |w, l, out| respond(w, l.strip_suffix(b"\n").unwrap_or(l), out), ..RIGHT }),
+        ("few words first", Library { respond: |w, l, out| if w.len() < WORDS { LENT } else { respond(w, l, out) }, ..RIGHT }),
+        (
+            "run without room",
+            Library { respond: |w, l, o| if o.len() < 43 { respond(w, l, &mut [0; 43]) } else { respond(w, l, o) }, ..RIGHT },
+        ),
+        ("the sheet left as it was", Library { respond: |w, l, out| respond(&mut w.to_vec(), l, out), ..RIGHT }),
+    ]);
+}
+
+#[test]
+fn mistakes_of_lists_are_found() {
+    let part_run = |w: &mut [u32], c: &[u32], out: &mut [u32]| match run_on(w, c, out) {
+        FORM => FORM + run_on(w, &c[..c.len() / 7 * 7], out),
+        refusal => refusal,
+    };
+    let first_twice = |w: &mut [u32], c: &[u32], out: &mut [u32]| {
+        c.first_chunk().map(|seven| step(w, seven, &mut [0; 6]));
+        run_on(w, c, out)
+    };
+    all_found(&[
+        ("a fresh sheet", Library { run_on: |w, c, out| if w.len() < WORDS { LENT } else { run(c, out) }, ..RIGHT }),
+        ("run up to the part of a command", Library { run_on: part_run, ..RIGHT }),
+        ("the part first", Library { run_on: |w, c, out| if c.len() % 7 != 0 { FORM } else { run_on(w, c, out) }, ..RIGHT }),
+        ("the first command twice", Library { run_on: first_twice, ..RIGHT }),
+        ("the part first, fresh", Library { run: |c, out| if c.len() % 7 != 0 { FORM } else { run(c, out) }, ..RIGHT }),
+        ("a number behind", Library { run: |c, out| run(c, out) + put(out, c.len() / 7 * 6, 0), ..RIGHT }),
+    ]);
+}

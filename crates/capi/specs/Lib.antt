@@ -1,0 +1,2 @@
+-- The definitions of crate capi, file by file.
+pub mod Fresh
