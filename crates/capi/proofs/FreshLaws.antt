@@ -6,27 +6,21 @@ use native.Mathlib.Nat.{le-antisymm}
 use borrow.Author.Tests.{lt-ltb, le-ltb}
 use lib.ListN.{length, drop, replicate}
 use Rattle.commands.specs.Codes.{lentTooShort}
-use Rattle.commands.specs.Rows.{fresh}
-use Rattle.sheet.specs.Words.{stateWords, rowsFrom, wordRow, modelOf}
-use Rattle.capi.specs.Fresh.{Freshened, freshened, freshWords, freshOf, FreshMeaning}
+use Rattle.sheet.specs.Words.{stateWords, modelOf, freshWords}
+use Rattle.sheet.proofs.WordLaws.{zeros-fresh}
+use Rattle.capi.specs.Fresh.{Freshened, freshened, freshOf, FreshMeaning}
 
 pub fresh-short : (w : List ℕ) → length w < stateWords → freshened w lentTooShort ≡ freshOf w
 unfolding freshOf
 fresh-short w l = simp (lt-ltb (length w) stateWords l)
 
-fresh-long : (w : List ℕ) → stateWords ≤ length w → freshened (freshWords w) 0 ≡ freshOf w
+fresh-long : (w : List ℕ) → stateWords ≤ length w → freshened (freshWords (drop stateWords w)) 0 ≡ freshOf w
 unfolding freshOf
 fresh-long w l = simp (le-ltb (length w) stateWords l)
 
--- the words mean the fresh sheet, whatever lies behind them
-fresh-model : (w : List ℕ) → modelOf (freshWords w) ≡ fresh
-unfolding freshWords modelOf rowsFrom wordRow fresh
-fresh-model w = refl
-
 pub fresh-meaning : FreshMeaning
-fresh-meaning w l = ap (λ (o : Freshened). modelOf (o .state)) (sym (fresh-long w l)) ∙ fresh-model w
+fresh-meaning w l = ap (λ (o : Freshened). modelOf (o .state)) (sym (fresh-long w l)) ∙ zeros-fresh (drop stateWords w)
 
 -- zeros are written as far as i, and i has come to the end of the sheet
 pub fresh-done : (w v : List ℕ) (i : ℕ) → stateWords ≤ length w → i ≤ stateWords → stateWords ≤ i → v ≡ replicate i 0 ++ drop i w → freshened v 0 ≡ freshOf w
-unfolding freshWords
 fresh-done w v i l m h e = ap (λ (k : List ℕ). freshened k 0) (e ∙ ap (λ (n : ℕ). replicate n 0 ++ drop n w) (le-antisymm m h)) ∙ fresh-long w l

@@ -2,12 +2,12 @@
 use Prim.Native.Nat.{ℕ, _≤_}
 use mathlib.Core.Path.{_≡_}
 use mathlib.Core.Bool.{cond}
-use mathlib.Core.List.{List, _++_}
+use mathlib.Core.List.{List}
 use lib.Dec.{ltb}
-use lib.ListN.{length, drop, replicate}
+use lib.ListN.{length, drop}
 use Rattle.commands.specs.Codes.{lentTooShort}
 use Rattle.commands.specs.Rows.{fresh}
-use Rattle.sheet.specs.Words.{stateWords, modelOf}
+use Rattle.sheet.specs.Words.{stateWords, modelOf, freshWords}
 
 -- the words afterwards, and the refusal
 pub record Freshened : Type 0 where
@@ -17,13 +17,9 @@ pub record Freshened : Type 0 where
 abbrev pub freshened : List ℕ → ℕ → Freshened
 freshened w k = record { state = w; refusal = k }
 
--- zeros over a sheet's words, and those behind them as they were
-unfoldable pub freshWords : List ℕ → List ℕ
-freshWords w = replicate stateWords 0 ++ drop stateWords w
-
--- too few words are left as they are, by 9
+-- zeros over a sheet's words, and those behind them as they were; too few words are left as they are, by 9
 unfoldable pub freshOf : List ℕ → Freshened
-freshOf w = cond (ltb (length w) stateWords) (freshened w lentTooShort) (freshened (freshWords w) 0)
+freshOf w = cond (ltb (length w) stateWords) (freshened w lentTooShort) (freshened (freshWords (drop stateWords w)) 0)
 
 -- what enough words mean afterwards, whatever they held: "Fresh: all empty"
 abbrev pub FreshMeaning : Type 0

@@ -1,6 +1,6 @@
 -- Commands on lent words run as the model's on the sheet that lies in them: one command, and a list. Assumes nothing.
 use Prim.Native.Nat.{ℕ, _+_, _≤_, _<_}
-use mathlib.Core.Path.{_≡_, refl, sym, ap, _∙_}
+use mathlib.Core.Path.{_≡_, refl, sym, ap, _∙_, subst}
 use mathlib.Core.Bool.{Bool, cond}
 use mathlib.Core.List.{List}
 use native.Mathlib.Omega.{arith}
@@ -11,7 +11,9 @@ use Rattle.commands.specs.Codes.{lentTooShort}
 use Rattle.commands.specs.Rows.{State, rowAt, withRow}
 use Rattle.commands.specs.Answers.{refused}
 use Rattle.commands.specs.Effects.{ModelEffect, Puts, PutsTwo, Tells}
-use Rattle.commands.specs.Model.{Stepped, stepped, applied, effectOn, stepOf, runFrom}
+use Rattle.commands.specs.Model.{Stepped, stepped, applied, effectOn, stepOf, Ran, runFrom}
+use Rattle.commands.specs.Claim.{Claim}
+use Rattle.commands.proofs.ClaimLaws.{model-claim}
 use Rattle.sheet.specs.Words.{stateWords, modelOf, putRow, wordsAfter, lentStep, lentRun}
 use Rattle.commands.proofs.CommandLaws.{InRange, FitEffect, target-in-range, effect-fits}
 use Rattle.sheet.proofs.RunByLaws.{steppedAs, ranAs, runBy-keeps, runBy-related}
@@ -88,3 +90,8 @@ behind-run w cs l =
 pub run-lent : (w : List ℕ) (cs : List Command) → stateWords ≤ length w → ranAs modelOf (lentRun w cs) ≡ runFrom (modelOf w) cs
 run-lent w cs l =
     runBy-related modelOf (λ (v : List ℕ). stateWords ≤ length v) lentStep stepOf (λ v c h. omega (arith, length-step v c h, h)) (λ v c h. step-lent v c h) w cs l
+
+-- and demand 3's claim of it
+pub lent-claim : (w : List ℕ) (cs : List Command) → stateWords ≤ length w → Claim (modelOf w) cs (lentRun w cs .answers) (modelOf (lentRun w cs .state))
+lent-claim w cs l =
+    subst (λ (r : Ran State). Claim (modelOf w) cs (r .answers) (r .state)) (sym (run-lent w cs l)) (model-claim .every-list (modelOf w) cs)

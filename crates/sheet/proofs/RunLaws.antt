@@ -21,7 +21,7 @@ use Rattle.sheet.specs.Run.{commandsOf, count, listOf, allNumbersOf, Ste
 use Rattle.commands.proofs.ClaimLaws.{model-claim}
 use Rattle.sheet.proofs.WordLaws.{zeros-fresh}
 use Rattle.sheet.proofs.RunByLaws.{run-snoc-state, run-snoc-answers}
-use Rattle.sheet.proofs.LentLaws.{run-lent, length-run}
+use Rattle.sheet.proofs.LentLaws.{run-lent, length-run, lent-claim}
 use Rattle.sheet.proofs.LentStepLaws.{at-room}
 
 -- ---- lists
@@ -131,11 +131,6 @@ lengths-fit words n l h = go (ltb words stateWords) (ltb l (n / 7 * 6)) refl ref
     go false true ea eb k = absurd (omega (arith, k))
     go false false ea eb k = (ltb-false words stateWords ea, ltb-false l (n / 7 * 6) eb)
 
--- demand 3's claim, of lent words
-pub lent-claim : (w : List ℕ) (cs : List Command) → stateWords ≤ length w → Claim (modelOf w) cs (lentRun w cs .answers) (modelOf (lentRun w cs .state))
-lent-claim w cs l =
-    subst (λ (r : Ran State). Claim (modelOf w) cs (r .answers) (r .state)) (sym (run-lent w cs l)) (model-claim .every-list (modelOf w) cs)
-
 pub run-done :
     (w₀ cs out₀ : List ℕ) (n : ℕ) (w out : List ℕ) (i : ℕ) → listRefusal w₀ cs out₀ ≡ 0 → Held w₀ cs out₀ n w out i → n ≤ i → Runs w₀ cs out₀ w out 0
 run-done w₀ cs out₀ n w out i none h le =
@@ -159,7 +154,7 @@ abbrev pub zeros : List ℕ
 zeros = replicate stateWords 0
 
 fresh-answers : (cs : List Command) → lentRun zeros cs .answers ≡ runFrom fresh cs .answers
-fresh-answers cs = ap (λ (r : Ran State). r .answers) (run-lent zeros cs (omega arith)) ∙ ap (λ (s : State). runFrom s cs .answers) zeros-fresh
+fresh-answers cs = ap (λ (r : Ran State). r .answers) (run-lent zeros cs (omega arith)) ∙ ap (λ (s : State). runFrom s cs .answers) (ap modelOf (sym (append-nil zeros)) ∙ zeros-fresh [])
 
 pub all-run : (cs before w after : List ℕ) (r : ℕ) → Runs zeros cs before w after r → RunsAll cs before after r
 all-run cs before w after r h =

@@ -3,7 +3,7 @@ use Prim.Native.Nat.{ℕ, zero, suc, _+_, _*_, _≤_, _<_}
 use mathlib.Core.Path.{_≡_, refl, ap, _∙_}
 use mathlib.Core.List.{List, [], _∷_}
 use native.Mathlib.Omega.{arith}
-use lib.ListN.{length, getD, drop, set, replicate, length-drop, length-set}
+use lib.ListN.{length, getD, drop, set, replicate, length-append, length-drop, length-set}
 use lib.Seq.{sets, drop-drop, drop-set-add, drop-set-lt, getD-drop, getD-set-other}
 use lib.Ieee.{Float, binary32, ofBits}
 use lib.Ieee.Bits.{ofBits-toBits, ofBits-fits}
@@ -12,7 +12,7 @@ use Rattle.vector.specs.ExactVectors.{F32Vec}
 use Rattle.vector.proofs.VectorFits.{zero-vector}
 use Rattle.commands.specs.Codes.{rowCount}
 use Rattle.commands.specs.Rows.{ModelRow, empty, rowAt, withRow, fresh}
-use Rattle.sheet.specs.Words.{rowWidth, stateWords, wordRow, rowsFrom, modelOf, rowWords, putRow}
+use Rattle.sheet.specs.Words.{rowWidth, stateWords, wordRow, rowsFrom, modelOf, freshWords, rowWords, putRow}
 
 -- ---- lists
 drop-sets-add : (n : ℕ) (l : List ℕ) (i : ℕ) (vs : List ℕ) → drop n (sets l (n + i) vs) ≡ sets (drop n l) i vs
@@ -127,7 +127,11 @@ pub behind-kept : (w : List ℕ) (t : ℕ) (r : ModelRow) → t < rowCount → d
 unfolding putRow rowWords
 behind-kept w t r l = drop-sets-before stateWords w (t * rowWidth) (rowWords r) (omega arith)
 
--- all zeros are the fresh sheet
-pub zeros-fresh : modelOf (replicate stateWords 0) ≡ fresh
-unfolding modelOf rowsFrom wordRow fresh
-zeros-fresh = refl
+-- zeros are the fresh sheet, whatever lies behind them
+module _ (behind : List ℕ) where
+  pub zeros-long : stateWords ≤ length (freshWords behind)
+  zeros-long = omega (arith, length-append (replicate {A = ℕ} stateWords 0) behind)
+
+  pub zeros-fresh : modelOf (freshWords behind) ≡ fresh
+  unfolding modelOf rowsFrom wordRow fresh
+  zeros-fresh = refl

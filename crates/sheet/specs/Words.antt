@@ -1,9 +1,9 @@
 -- A sheet in words that a caller lends: 64 rows of five words each, the kind, three numbers as bits, and a fourth that is 0. Words behind them stay as they are.
 use Prim.Native.Nat.{ℕ, zero, suc, _+_, _*_}
 use mathlib.Core.Bool.{cond}
-use mathlib.Core.List.{List, [], _∷_}
+use mathlib.Core.List.{List, [], _∷_, _++_}
 use lib.Dec.{ltb}
-use lib.ListN.{length, getD, drop}
+use lib.ListN.{length, getD, drop, replicate}
 use lib.Seq.{sets}
 use lib.Ieee.{binary32, ofBits}
 use Rattle.vector.specs.Vectors.{vec}
@@ -33,6 +33,10 @@ rowsFrom (suc n) l = wordRow l ∷ rowsFrom n (drop rowWidth l)
 -- the sheet that lies in words: any words mean some sheet
 unfoldable pub modelOf : List ℕ → State
 modelOf w = record { rows = rowsFrom rowCount w }
+
+-- words that are a fresh sheet ("Fresh: all empty"): zeros, and any words behind them
+abbrev pub freshWords : List ℕ → List ℕ
+freshWords behind = replicate stateWords 0 ++ behind
 
 -- ---- writing
 unfoldable pub rowWords : ModelRow → List ℕ

@@ -1,5 +1,5 @@
 -- Calls one after another write the answer lines of the bytes that they consume. Assumes nothing.
-use Prim.Native.Nat.{ℕ}
+use Prim.Native.Nat.{ℕ, _≤_}
 use mathlib.Core.Bool.{Bool, true, false, cond}
 use mathlib.Core.Path.{_≡_, refl, sym, ap, _∙_, subst}
 use mathlib.Core.List.{List, [], _++_, append-assoc}
@@ -14,64 +14,64 @@ use Rattle.commands.specs.Answers.{refused}
 use Rattle.commands.specs.Model.{Stepped}
 use Rattle.commands.specs.Claim.{Claim}
 use Rattle.commands.proofs.ClaimLaws.{model-claim}
-use Rattle.sheet.specs.Words.{modelOf, lentStep}
+use Rattle.sheet.specs.Words.{stateWords, modelOf, freshWords, lentStep}
 use Rattle.stream.specs.declared.Stream.{Stream}
-use Rattle.stream.specs.Stream.{Held, held, feedOf, takenOf, FedInto, fedInto, textOf, fedBy, endOf, EndedInto, endedOf, endedBy}
+use Rattle.stream.specs.Stream.{Held, held, feedOf, consumedOf, FedInto, fedInto, textOf, fedBy, endOf, EndedInto, endedOf, endedBy}
 use Rattle.stream.specs.Responses.{answerText}
 use Rattle.stream.specs.Inputs.{cut, commandsIn}
-use Rattle.stream.specs.Calls.{Calls, feed, short, ended, Answered, freshWords, CallsAnswered, FreshCallsAnswered}
-use Rattle.stream.proofs.FreshLaws.{zeros-long, zeros-fresh}
+use Rattle.stream.specs.Calls.{Calls, feed, short, ended, Answered, CallsAnswered, FreshAnswered, FreshCallsAnswered}
+use Rattle.sheet.proofs.WordLaws.{zeros-long, zeros-fresh}
 use Rattle.stream.proofs.AnswerLaws.{length-text}
 use Rattle.stream.proofs.PieceLaws.{feed-append-held, feed-append-text}
 use Rattle.stream.proofs.InputLaws.{inputs-answered}
 use Rattle.stream.proofs.LentFeedLaws.{lent-as-model}
 
 -- what an input comes to, by any way of doing one command: what is written, with the answer line of its end, and the state after it
-record AllFed {S : Type 0} (step : S → Command → Stepped S) (h : Held S) (input output : List ℕ) (end : S) : Type 0 where
-  text : output ≡ feedOf step h input .text ++ endOf (feedOf step h input .held .text)
-  state : end ≡ feedOf step h input .held .state
+pub record AllFed {S : Type 0} (step : S → Command → Stepped S) (h : Held S) (input output : List ℕ) (end : S) : Type 0 where
+  pub text : output ≡ feedOf step h input .text ++ endOf (feedOf step h input .held .text)
+  pub state : end ≡ feedOf step h input .held .state
 
 -- ---- one call
 -- `feed` leaves what the bytes that it consumes come to, and writes their answer lines
 module _ {S : Type 0} (step : S → Command → Stepped S) (h : Held S) (bytes before : List ℕ) (o : FedInto S) (e : o ≡ fedInto step h bytes before) where
-  fed-held : o .held ≡ feedOf step h (take (o .took) bytes) .held
+  fed-held : o .held ≡ feedOf step h (take (o .consumed) bytes) .held
   unfolding fedInto
   fed-held = rw e refl
 
-  fed-text : take (o .put) (o .out) ≡ feedOf step h (take (o .took) bytes) .text
+  fed-text : take (o .produced) (o .out) ≡ feedOf step h (take (o .consumed) bytes) .text
   unfolding fedInto
   fed-text =
-      let text = feedOf step h (take (takenOf (length before) bytes) bytes) .text in
+      let text = feedOf step h (take (consumedOf (length before) bytes) bytes) .text in
       rw e (take-at text (drop (length text) before) (length text) refl)
 
   -- and the rest of the input comes behind them
   fed-more : (input output : List ℕ) (end : S) → AllFed step (o .held) input output end
-      → AllFed step h (take (o .took) bytes ++ input) (take (o .put) (o .out) ++ output) end
+      → AllFed step h (take (o .consumed) bytes ++ input) (take (o .produced) (o .out) ++ output) end
   fed-more input output end f =
-      let l = take (o .took) bytes in
+      let l = take (o .consumed) bytes in
       let rest = feedOf step (o .held) input in
       record {
         text =
             rw (feed-append-held step h l input, feed-append-text step h l input, ← fed-held, ← fed-text, f .text)
-            (sym (append-assoc (take (o .put) (o .out)) (rest .text) (endOf (rest .held .text))));
+            (sym (append-assoc (take (o .produced) (o .out)) (rest .text) (endOf (rest .held .text))));
         state = rw (feed-append-held step h l input, ← fed-held) (f .state);
       }
 
 -- `ended` writes the answer line of the bytes that are left, or nothing where 9 refuses it
 module _ (text before : List ℕ) (o : EndedInto) (e : o ≡ endedOf text before) where
-  ended-text : take (o .put) (o .bytes) ≡ cond (eqb (o .refusal) lentTooShort) [] (endOf text)
+  ended-text : take (o .produced) (o .bytes) ≡ cond (eqb (o .refusal) lentTooShort) [] (endOf text)
   unfolding endedOf endOf
   ended-text = go (eqb (length text) 0) (ltb (length before) 43) refl refl
     where
-      go : (x y : Bool) → eqb (length text) 0 ≡ x → ltb (length before) 43 ≡ y → take (o .put) (o .bytes) ≡ cond (eqb (o .refusal) lentTooShort) [] (endOf text)
+      go : (x y : Bool) → eqb (length text) 0 ≡ x → ltb (length before) 43 ≡ y → take (o .produced) (o .bytes) ≡ cond (eqb (o .refusal) lentTooShort) [] (endOf text)
       go true y p q = rw (e, p) refl
       go false true p q = rw (e, p, q) refl
       go false false p q = rw (e, p, q) (take-at (answerText (refused illFormed)) (drop 43 before) 43 (length-text (refused illFormed)))
 
-  ended-short : o .refusal ≡ lentTooShort → take (o .put) (o .bytes) ≡ []
+  ended-short : o .refusal ≡ lentTooShort → take (o .produced) (o .bytes) ≡ []
   ended-short k = rw (eq-eqb _ _ k) at ended-text
 
-  ended-last : (o .refusal ≡ lentTooShort → ⊥) → take (o .put) (o .bytes) ≡ endOf text
+  ended-last : (o .refusal ≡ lentTooShort → ⊥) → take (o .produced) (o .bytes) ≡ endOf text
   ended-last k = rw (ne-eqb _ _ k) at ended-text
 
 -- ---- calls one after another
@@ -83,19 +83,29 @@ calls-fed {s = s} (short c e k r) = rw (ended-short (textOf s) (c .before) (ende
 calls-fed {s = s} (ended c e k) = record { text = ended-last (textOf s) (c .before) (endedBy (c .result) (c .after)) e k; state = refl }
 
 -- ---- demand 3
-pub calls-answered : CallsAnswered
-calls-answered w s input output w′ l none c =
-    let f = subst (λ (t : List ℕ). AllFed lentStep (held w t) input output w′) none (calls-fed c) in
-    let m = lent-as-model w [] input l in
-    let a = inputs-answered (modelOf w) input in
-    record {
-      run = a .run;
-      claim = subst (λ (x : State). Claim (modelOf w) (commandsIn (cut input .lines)) (a .run) x) (sym (ap modelOf (f .state) ∙ m .same-state)) (a .claim);
-      written = rw (f .text, m .same-text, m .same-held) (a .output);
-    }
+module _ (w input output w′ : List ℕ) (f : AllFed lentStep (held w []) input output w′) where
+  pub fed-answered : stateWords ≤ length w → Answered (modelOf w) input output (modelOf w′)
+  fed-answered l =
+      let m = lent-as-model w [] input l in
+      let a = inputs-answered (modelOf w) input in
+      record {
+        run = a .run;
+        claim = subst (λ (x : State). Claim (modelOf w) (commandsIn (cut input .lines)) (a .run) x) (sym (ap modelOf (f .state) ∙ m .same-state)) (a .claim);
+        written = rw (f .text, m .same-text, m .same-held) (a .output);
+      }
 
-pub fresh-calls-answered : FreshCallsAnswered
-fresh-calls-answered behind s input output w′ none c =
-    let any = calls-answered (freshWords behind) s input output w′ (zeros-long behind) none c in
+pub fresh-fed-answered : (behind input output w′ : List ℕ) → AllFed lentStep (held (freshWords behind) []) input output w′ → FreshAnswered input output w′
+fresh-fed-answered behind input output w′ f =
+    let any = fed-answered (freshWords behind) input output w′ f (zeros-long behind) in
     let a = subst (λ (x : State). Answered x input output (modelOf w′)) (zeros-fresh behind) any in
     record { answered = a; sound = a .claim .sound (model-claim .fresh-sound); well = a .claim .well (model-claim .fresh-sound) }
+
+-- of calls, by a stream that holds no byte
+calls-all : (w : List ℕ) (s : Stream) (input output w′ : List ℕ) → textOf s ≡ [] → Calls w s input output w′ → AllFed lentStep (held w []) input output w′
+calls-all w s input output w′ none c = subst (λ (t : List ℕ). AllFed lentStep (held w t) input output w′) none (calls-fed c)
+
+pub calls-answered : CallsAnswered
+calls-answered w s input output w′ l none c = fed-answered w input output w′ (calls-all w s input output w′ none c) l
+
+pub fresh-calls-answered : FreshCallsAnswered
+fresh-calls-answered behind s input output w′ none c = fresh-fed-answered behind input output w′ (calls-all (freshWords behind) s input output w′ none c)

@@ -14,13 +14,12 @@ use Rattle.commands.specs.Answers.{refused}
 use Rattle.commands.specs.Model.{Stepped, stepped, Ran, runBy}
 use Rattle.commands.specs.Claim.{Claim}
 use Rattle.commands.proofs.ClaimLaws.{model-claim}
-use Rattle.sheet.specs.Words.{stateWords, modelOf, lentStep, lentRun}
-use Rattle.sheet.proofs.LentLaws.{run-lent}
+use Rattle.sheet.specs.Words.{freshWords, stateWords, modelOf, lentStep, lentRun}
+use Rattle.sheet.proofs.LentLaws.{lent-claim}
 use Rattle.lines.specs.CommandLine.{numbers}
 use Rattle.stream.specs.Responses.{response, lineResponse, answerText, Responded, responded, respondOf}
-use Rattle.stream.specs.Calls.{freshWords}
 use Rattle.stream.specs.Lives.{LineCall, RespondKept, LineCalls, start, next, Short, Shows, Life, over, short, ill, runs, Lived, LivesRun, FreshLivesRun}
-use Rattle.stream.proofs.FreshLaws.{zeros-long, zeros-fresh}
+use Rattle.sheet.proofs.WordLaws.{zeros-long, zeros-fresh}
 use Rattle.stream.proofs.ResponseLaws.{respond-short}
 
 -- ---- one call
@@ -110,9 +109,7 @@ lent-lived w calls w′ l r =
       commands = cs;
       answers = lentRun w cs .answers;
       life = r .life;
-      claim =
-          rw (r .words)
-          (subst (λ (m : Ran State). Claim (modelOf w) cs (m .answers) (m .state)) (sym (run-lent w cs l)) (model-claim .every-list (modelOf w) cs));
+      claim = rw (r .words) (lent-claim w cs l);
     }
 
 pub lives-run : LivesRun

@@ -13,6 +13,7 @@ use Rattle.commands.specs.Effects as Effects
 use Rattle.commands.specs.Model as Model
 use Rattle.commands.specs.Fields as Fields
 use Rattle.sheet.specs.Words as Words
+use Rattle.sheet.specs.Words.{freshWords}
 use Rattle.lines.specs.Field as Field
 use Rattle.lines.specs.Columns as Columns
 use Rattle.lines.specs.CommandLine as CommandLine
@@ -21,7 +22,7 @@ use Rattle.lines.specs.Corners as Texts
 use Rattle.stream.specs.declared.Stream.{Stream}
 use Rattle.stream.specs.Responses as Responses
 use Rattle.stream.specs.Stream as Stream
-use Rattle.stream.specs.Calls.{FeedCall, EndCall, Calls, feed, short, ended, freshWords}
+use Rattle.stream.specs.Calls.{FeedCall, EndCall, Calls, feed, short, ended}
 use Rattle.stream.specs.Lives.{LineCall, LineCalls, start, next}
 use Rattle.stream.specs.Corners.{point, pointAnswer, ill}
 
@@ -34,10 +35,10 @@ abbrev pointWords : List ℕ
 pointWords = 1 ∷ 1077936128 ∷ 1082130432 ∷ 0 ∷ 0 ∷ replicate 315 0
 
 abbrev fed : List ℕ → List ℕ → Stream → ℕ → ℕ → List ℕ → List ℕ → FeedCall
-fed bytes before s took put w after = record { bytes = bytes; before = before; result = record { stream = s; took = took; put = put }; words = w; after = after }
+fed bytes before s consumed produced w after = record { bytes = bytes; before = before; result = record { stream = s; consumed = consumed; produced = produced }; words = w; after = after }
 
 abbrev end : List ℕ → ℕ → ℕ → List ℕ → EndCall
-end before put refusal after = record { before = before; result = record { put = put; refusal = refusal }; after = after }
+end before produced refusal after = record { before = before; result = record { produced = produced; refusal = refusal }; after = after }
 
 -- a line of `respond`, without its line feed
 abbrev said : List ℕ → List ℕ → ℕ → List ℕ → List ℕ → LineCall
@@ -59,7 +60,7 @@ pub record CallCorners : Type 0 where
   by-lines : LineCalls (freshWords []) (lentLess ∷ noByte ∷ lentMore ∷ []) pointWords
 
 pub call-corners : CallCorners
-unfolding Texts.bytes Responses.response Responses.answerText Responses.respondOf Stream.pushed Stream.byteFed Stream.feedOf Stream.takenOf Stream.fedInto Stream.endOf Stream.endedOf Fields.commandOf Field.digits Field.decimal Field.valueFrom Field.value Field.leadingZero Field.number Field.glyph Field.lead Field.written Columns.fieldAt Columns.both Columns.numbersAt Columns.text CommandLine.numbers AnswerLine.answerLine Words.lentStep Words.modelOf Words.rowsFrom Words.wordRow Words.wordsAfter Words.putRow Words.rowWords Model.applied Effects.effectOf Effects.unlessRefused Effects.commandEffect Commands.table Commands.entryAt Refusals.unknown Refusals.noRow Refusals.badSource Refusals.outOfOrder Refusals.outOfRange Refusals.badValue Refusals.noRefraction Refusals.lacksDirection Refusals.noDirection Refusals.notFinite Refusals.first Refusals.early Refusals.late Refusals.refusals Refusals.refusalOf Comparisons.isFinite Ieee.ofBits Ieee.toBits
+unfolding Texts.bytes Responses.response Responses.answerText Responses.respondOf Stream.pushed Stream.byteFed Stream.feedOf Stream.consumedOf Stream.fedInto Stream.endOf Stream.endedOf Fields.commandOf Field.digits Field.decimal Field.valueFrom Field.value Field.leadingZero Field.number Field.glyph Field.lead Field.written Columns.fieldAt Columns.both Columns.numbersAt Columns.text CommandLine.numbers AnswerLine.answerLine Words.lentStep Words.modelOf Words.rowsFrom Words.wordRow Words.wordsAfter Words.putRow Words.rowWords Model.applied Effects.effectOf Effects.unlessRefused Effects.commandEffect Commands.table Commands.entryAt Refusals.unknown Refusals.noRow Refusals.badSource Refusals.outOfOrder Refusals.outOfRange Refusals.badValue Refusals.noRefraction Refusals.lacksDirection Refusals.noDirection Refusals.notFinite Refusals.first Refusals.early Refusals.late Refusals.refusals Refusals.refusalOf Comparisons.isFinite Ieee.ofBits Ieee.toBits
 call-corners =
     let first = take 20 point in
     record {

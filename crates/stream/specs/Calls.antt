@@ -4,17 +4,17 @@
 use Prim.Native.Nat.{ℕ, _+_, _≤_, _<_}
 use mathlib.Core.Path.{_≡_}
 use mathlib.Core.List.{List, [], _++_}
-use lib.ListN.{length, take, drop, replicate}
+use lib.ListN.{length, take, drop}
 use Rattle.commands.specs.Codes.{lentTooShort}
 use Rattle.commands.specs.Rows.{State, fresh}
 use Rattle.commands.specs.Answers.{ModelAnswer}
 use Rattle.commands.specs.Claim.{Sound, AllWell, Claim}
-use Rattle.sheet.specs.Words.{stateWords, modelOf, lentStep}
+use Rattle.sheet.specs.Words.{stateWords, modelOf, freshWords}
 use Rattle.lines.specs.AnswerLine.{answerLength}
 use Rattle.stream.specs.declared.Stream.{Stream}
-use Rattle.stream.specs.declared.feed.Taken.{Taken}
+use Rattle.stream.specs.declared.feed.Progress.{Progress}
 use Rattle.stream.specs.declared.feed.Ended.{Ended}
-use Rattle.stream.specs.Stream.{held, fedInto, textOf, fedBy, endedOf, endedBy}
+use Rattle.stream.specs.Stream.{textOf, Feeds, EndsInput}
 use Rattle.stream.specs.Inputs.{cut, commandsIn, between, texts, lastAnswer}
 
 -- ---- one call
@@ -22,7 +22,7 @@ use Rattle.stream.specs.Inputs.{cut, commandsIn, between, texts, lastAns
 pub record FeedCall : Type 0 where
   pub bytes : List ℕ
   pub before : List ℕ
-  pub result : Taken
+  pub result : Progress
   pub words : List ℕ
   pub after : List ℕ
 
@@ -32,12 +32,12 @@ pub record EndCall : Type 0 where
   pub result : Ended
   pub after : List ℕ
 
--- what their contracts say of it, on words and a stream
+-- their contracts, on words and a stream
 abbrev pub FeedKept : List ℕ → Stream → FeedCall → Type 0
-FeedKept w s c = fedBy (c .words) (c .result) (c .after) ≡ fedInto lentStep (held w (textOf s)) (c .bytes) (c .before)
+FeedKept w s c = Feeds w s (c .bytes) (c .before) (c .result) (c .words) (c .after)
 
 abbrev pub EndKept : Stream → EndCall → Type 0
-EndKept s c = endedBy (c .result) (c .after) ≡ endedOf (textOf s) (c .before)
+EndKept s c = EndsInput s (c .before) (c .result) (c .after)
 
 -- ---- calls one after another, each on the words and the stream that the last one left
 -- `Calls w s input output w′` goes from the words w and the stream s to the words w′. The input is the bytes that the calls consume, in order: what a call
@@ -47,20 +47,20 @@ pub data Calls : List ℕ → Stream → List ℕ → List ℕ → List ℕ → 
       {w : List ℕ} {s : Stream} {input output w′ : List ℕ} (c : FeedCall)
       → FeedKept w s c
       → Calls (c .words) (c .result .stream) input output w′
-      → Calls w s (take (c .result .took) (c .bytes) ++ input) (take (c .result .put) (c .after) ++ output) w′
+      → Calls w s (take (c .result .consumed) (c .bytes) ++ input) (take (c .result .produced) (c .after) ++ output) w′
   -- `ended`, refused by 9 since its answer line has no room: other calls follow
   short :
       {w : List ℕ} {s : Stream} {input output w′ : List ℕ} (c : EndCall)
       → EndKept s c
       → c .result .refusal ≡ lentTooShort
       → Calls w s input output w′
-      → Calls w s input (take (c .result .put) (c .after) ++ output) w′
+      → Calls w s input (take (c .result .produced) (c .after) ++ output) w′
   -- `ended`, not refused by 9: the last call
   ended :
       {w : List ℕ} {s : Stream} (c : EndCall)
       → EndKept s c
       → (c .result .refusal ≡ lentTooShort → ⊥)
-      → Calls w s [] (take (c .result .put) (c .after)) w
+      → Calls w s [] (take (c .result .produced) (c .after)) w
 
 -- ---- what they write
 -- the answer lines of the list of commands that the well formed lines of the input give, of which demand 3's claim holds; those of lines that 1 refuses in
@@ -75,10 +75,6 @@ abbrev pub CallsAnswered : Type 0
 CallsAnswered =
     (w : List ℕ) (s : Stream) (input output w′ : List ℕ) → stateWords ≤ length w → textOf s ≡ [] → Calls w s input output w′
     → Answered (modelOf w) input output (modelOf w′)
-
--- words that are a fresh sheet, and any behind them
-abbrev pub freshWords : List ℕ → List ℕ
-freshWords behind = replicate stateWords 0 ++ behind
 
 -- demand 3 itself: "run one after another from a fresh sheet"
 pub record FreshAnswered (input output w′ : List ℕ) : Type 0 where
@@ -95,10 +91,10 @@ FreshCallsAnswered =
 -- ---- what a call consumes
 -- no byte is left where an answer line has room behind what is written; what is lent behind that stays as it was
 pub record Consumes (c : FeedCall) : Type 0 where
-  pub part : c .result .took ≤ length (c .bytes)
-  pub fits : c .result .put ≤ length (c .before)
-  pub full : c .result .took < length (c .bytes) → length (c .before) < c .result .put + answerLength
-  pub behind : drop (c .result .put) (c .after) ≡ drop (c .result .put) (c .before)
+  pub part : c .result .consumed ≤ length (c .bytes)
+  pub fits : c .result .produced ≤ length (c .before)
+  pub full : c .result .consumed < length (c .bytes) → length (c .before) < c .result .produced + answerLength
+  pub behind : drop (c .result .produced) (c .after) ≡ drop (c .result .produced) (c .before)
 
 abbrev pub CallsConsume : Type 0
 CallsConsume = (w : List ℕ) (s : Stream) (c : FeedCall) → FeedKept w s c → Consumes c

@@ -12,11 +12,10 @@ use Rattle.commands.specs.Rows.{State, fresh}
 use Rattle.commands.specs.Fields.{commandOf}
 use Rattle.commands.specs.Answers.{ModelAnswer, refused}
 use Rattle.commands.specs.Claim.{Sound, AllWell, Claim}
-use Rattle.sheet.specs.Words.{stateWords, modelOf, lentStep}
+use Rattle.sheet.specs.Words.{freshWords, stateWords, modelOf, lentStep}
 use Rattle.lines.specs.CommandLine.{numbers}
 use Rattle.lines.specs.AnswerLine.{answerLength}
-use Rattle.stream.specs.Responses.{answerText, responded, respondOf}
-use Rattle.stream.specs.Calls.{freshWords}
+use Rattle.stream.specs.Responses.{answerText, Responds}
 
 -- ---- calls
 -- one call of `respond`: the line and the lent bytes before it; its result, and the words and the lent bytes after it
@@ -27,9 +26,9 @@ pub record LineCall : Type 0 where
   pub words : List ℕ
   pub after : List ℕ
 
--- what its contract says of it, on words
+-- its contract, on words
 abbrev pub RespondKept : List ℕ → LineCall → Type 0
-RespondKept w c = responded (c .words) (c .refusal) (c .after) ≡ respondOf lentStep w (c .line) (c .before)
+RespondKept w c = Responds w (c .line) (c .before) (c .refusal) (c .words) (c .after)
 
 -- calls from the words w to the words w′, each on the words that the last one left
 pub data LineCalls : List ℕ → List LineCall → List ℕ → Type 0 where

@@ -1,6 +1,7 @@
 -- One line (document 01, "The plain sheet": "A line that 9 and 1 don't refuse runs the one command that its fields give, and its answer line shows that
 -- answer; one they refuse runs none and leaves every row"), by any way of doing one command: the reference model's, or that on lent words.
 use Prim.Native.Nat.{ℕ}
+use mathlib.Core.Path.{_≡_}
 use mathlib.Core.Bool.{cond}
 use mathlib.Core.List.{List, _++_}
 use mathlib.Core.Option.{Option, none, some}
@@ -10,6 +11,7 @@ use Rattle.commands.specs.declared.command.Command.{Command}
 use Rattle.commands.specs.Codes.{illFormed, lentTooShort}
 use Rattle.commands.specs.Answers.{ModelAnswer, refused}
 use Rattle.commands.specs.Model.{Stepped, stepped}
+use Rattle.sheet.specs.Words.{lentStep}
 use Rattle.commands.specs.Fields.{commandOf}
 use Rattle.lines.specs.CommandLine.{numbers}
 use Rattle.lines.specs.AnswerLine.{answerLine, answerLength}
@@ -41,3 +43,7 @@ respondOf step s line out =
     cond (ltb (length out) answerLength)
     (responded s lentTooShort out)
     (responded (o .state) (o .answer .refusal) (answerText (o .answer) ++ drop answerLength out))
+
+-- `respond` to a line with `out` lent, on the words w: its result, and the words and the lent bytes afterwards
+abbrev pub Responds : List ℕ → List ℕ → List ℕ → ℕ → List ℕ → List ℕ → Type 0
+Responds w line out k w′ out′ = responded w′ k out′ ≡ respondOf lentStep w line out

@@ -1,6 +1,7 @@
 -- The bytes of an input, however they come (document 01, "Lines": "The program reads standard input and answers each line, refused ones included"), by any way
 -- of doing one command.
 use Prim.Native.Nat.{ℕ, suc, _-_}
+use mathlib.Core.Path.{_≡_}
 use mathlib.Core.Bool.{cond}
 use mathlib.Core.List.{List, [], _∷_, _++_}
 use lib.Dec.{eqb, ltb}
@@ -9,6 +10,7 @@ use Rattle.commands.specs.declared.command.Command.{Command}
 use Rattle.commands.specs.Codes.{illFormed, lentTooShort}
 use Rattle.commands.specs.Answers.{refused}
 use Rattle.commands.specs.Model.{Stepped}
+use Rattle.sheet.specs.Words.{lentStep}
 use Rattle.lines.specs.CommandLine.{lineLength}
 use Rattle.lines.specs.AnswerLine.{answerLength}
 use Rattle.stream.specs.declared.Stream.{Stream}
@@ -80,6 +82,10 @@ textOf s = take (s .len) (s .line)
 abbrev pub fedBy : List ℕ → Progress → List ℕ → FedInto (List ℕ)
 fedBy w r out = record { held = held w (textOf (r .stream)); consumed = r .consumed; produced = r .produced; out = out }
 
+-- `feed` of bytes with `out` lent, on the words w by the stream s: its result, and the words and the lent bytes afterwards
+abbrev pub Feeds : List ℕ → Stream → List ℕ → List ℕ → Progress → List ℕ → List ℕ → Type 0
+Feeds w s bytes out r w′ out′ = fedBy w′ r out′ ≡ fedInto lentStep (held w (textOf s)) bytes out
+
 -- ---- the end of an input
 -- "Bytes after the last line feed are a line too, refused by 1"
 unfoldable pub endOf : List ℕ → List ℕ
@@ -101,3 +107,7 @@ endedOf text out =
 
 abbrev pub endedBy : Ended → List ℕ → EndedInto
 endedBy r out = record { bytes = out; produced = r .produced; refusal = r .refusal }
+
+-- `ended` with `out` lent, of the stream s: its result, and the lent bytes afterwards
+abbrev pub EndsInput : Stream → List ℕ → Ended → List ℕ → Type 0
+EndsInput s out r out′ = endedBy r out′ ≡ endedOf (textOf s) out

@@ -2,8 +2,7 @@
 ghost use mathlib.Core.Path.{_≡_};
 ghost use mathlib.Core.List.{[]};
 ghost use Prim.Native.Nat.{_≤_, min};
-ghost use Rattle.sheet.specs.Words.{lentStep};
-ghost use Rattle.stream.specs.Stream.{keptBytes, textOf, held, fedBy, fedInto, endedBy, endedOf};
+ghost use Rattle.stream.specs.Stream.{keptBytes, textOf, Feeds, EndsInput};
 use crate::KEPT;
 use crate::Stream;
 use crate::answers::put_line;
@@ -45,7 +44,7 @@ impl Stream {
 
     // Consumes bytes in turn while an answer line has room, and runs the commands of the lines that end on the sheet that lies in the words.
     pub fn feed(self, state: &mut [u32], bytes: &[u8], out: &mut [u8]) -> Progress
-        ensures { λ r. ⌜ fedBy (now (state .exit)) r (now (out .exit)) ≡ fedInto lentStep (held (now (state .entry)) (textOf self)) (now (bytes .entry)) (now (out .entry)) ⌝ }
+        ensures { λ r. ⌜ Feeds (now (state .entry)) self (now (bytes .entry)) (now (out .entry)) r (now (state .exit)) (now (out .exit)) ⌝ }
     {
         let mut line = self.line;
         let mut len = kept(self.len);
@@ -105,7 +104,7 @@ impl Stream {
 
     // The end of the input: the answer line of the bytes that are left, or no byte.
     pub fn ended(self, out: &mut [u8]) -> Ended
-        ensures { λ r. ⌜ endedBy r (now (out .exit)) ≡ endedOf (textOf self) (now (out .entry)) ⌝ }
+        ensures { λ r. ⌜ EndsInput self (now (out .entry)) r (now (out .exit)) ⌝ }
     {
         if self.len == 0 {
             return Ended {
