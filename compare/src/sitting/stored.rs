@@ -1,4 +1,5 @@
-//! The stored sitting: the named lines, then lines by a seed until every command has had every outcome that it can have.
+//! The stored sitting: the named lines, then lines by a seed until every command has had every outcome that it can have, and short
+//! lines whose answers are longer than what is lent for them at once.
 
 use super::named::LISTING;
 use super::Sitting;
@@ -12,7 +13,11 @@ const MALFORMED: u32 = 24;
 const LEAST: u64 = 2500;
 const MOST: u64 = 20_000;
 
-/// The stored sitting. It ends with a good line that has no line feed.
+/// The program reads 65,536 bytes at once and has room for the answers of 1,524 lines. So many short lines in a row have more than that
+/// in one read, however the reads fall.
+const SHORT: usize = 2 * 1_600;
+
+/// The stored sitting. It ends with the short lines, and a good line that has no line feed.
 pub fn stored() -> Vec<u8> {
     let mut sitting = Sitting::new(SEED, MALFORMED);
     let mut lines = Vec::new();
@@ -24,6 +29,7 @@ pub fn stored() -> Vec<u8> {
         sitting.line(&mut lines);
         count += answered(&mut tally, &lines[start..]);
     }
+    lines.extend_from_slice(&[b'\n'; SHORT]);
     lines.extend_from_slice(LISTING.lines().next().expect("it has three").as_bytes());
     lines
 }
