@@ -4,24 +4,6 @@ use borrow.Author.Needs.{needs}
 use Rattle.lines.proofs.answer_line.put_field.Statement.{statement}
 use Rattle.lines.proofs.answer_line.put_field.Tie as tie
 
-add-end : tie.Need-add-end
-add-end c = search needs
-
-sub-put-number : tie.Need-sub-put-number
-sub-put-number c = search needs
-
-part-put-number-start : tie.Need-part-put-number-start
-part-put-number-start c = search needs
-
-part-put-number-end : tie.Need-part-put-number-end
-part-put-number-end c = search needs
-
-put-number-requires : tie.Need-put-number-requires
-put-number-requires c κs = search needs
-
-same-length : tie.Need-same-length
-same-length c = search needs
-
 returns : tie.Need-returns
 returns c = put-part (c .before .before .before .before .before .args .out .now) _ (c .before .before .before .before .before .args .at) (c .before .before .before .before .before .args .w) (c .before .before .before .before .before .args .n) (c .before .before .before .before .before .pre) (c .before .before .put-number .ensures)
 
@@ -29,10 +11,10 @@ pub put-field-spec : {M : Type 1} → statement M
 put-field-spec =
     tie.close
     (tie.spec
-    add-end
-    sub-put-number
-    part-put-number-start
-    part-put-number-end
-    put-number-requires
-    same-length
+    (λ c. search needs)
+    (λ c. search needs)
+    (λ c. search needs)
+    (λ c. search needs)
+    (λ c κs. search needs)
+    (λ c. search needs)
     returns)

@@ -10,27 +10,6 @@ use Rattle.lines.proofs.answer_line.put_six.Tie as tie
 returns : tie.Need-returns
 returns c = put-none _ _ _ _ _ _ (c .before .before .args .out .now) (c .if1 .taken)
 
-put-field-requires : tie.Need-put-field-requires
-put-field-requires c κs = search needs
-
-put-field-requires-2 : tie.Need-put-field-requires-2
-put-field-requires-2 c κs = search needs
-
-put-field-requires-3 : tie.Need-put-field-requires-3
-put-field-requires-3 c κs = search needs
-
-put-field-requires-4 : tie.Need-put-field-requires-4
-put-field-requires-4 c κs = search needs
-
-put-field-requires-5 : tie.Need-put-field-requires-5
-put-field-requires-5 c κs = search needs
-
-put-field-requires-6 : tie.Need-put-field-requires-6
-put-field-requires-6 c κs = search needs
-
-sub-out : tie.Need-sub-out
-sub-out c = search needs
-
 slice-write-out : tie.Need-slice-write-out
 slice-write-out c = omega arith
 
@@ -54,13 +33,13 @@ put-six-spec =
     tie.close
     (tie.spec
     returns
-    put-field-requires
-    put-field-requires-2
-    put-field-requires-3
-    put-field-requires-4
-    put-field-requires-5
-    put-field-requires-6
-    sub-out
+    (λ c κs. search needs)
+    (λ c κs. search needs)
+    (λ c κs. search needs)
+    (λ c κs. search needs)
+    (λ c κs. search needs)
+    (λ c κs. search needs)
+    (λ c. search needs)
     slice-write-out
     same-length
     returns-2)

@@ -6,28 +6,19 @@ use borrow.Author.Needs.{needs}
 use Rattle.lines.proofs.command_line.field_of_11.Statement.{statement}
 use Rattle.lines.proofs.command_line.field_of_11.Tie as tie
 
-add-end : tie.Need-add-end
-add-end c = search needs
-
-sub-digits : tie.Need-sub-digits
-sub-digits c = search needs
-
-part-digits-start : tie.Need-part-digits-start
-part-digits-start c = search needs
-
-part-digits-end : tie.Need-part-digits-end
-part-digits-end c = search needs
-
-digits-requires : tie.Need-digits-requires
-digits-requires c κs = search needs
-
-number-requires : tie.Need-number-requires
-number-requires c κs = search needs
-
 returns : tie.Need-returns
 returns c =
     c .number .ensures
     ∙ (ap number (c .before .digits .ensures) ∙ read-part (c .before .before .before .before .args .at) 11 (c .before .before .before .before .args .line .now))
 
 pub field-of-11-spec : {M : Type 1} → statement M
-field-of-11-spec = tie.close (tie.spec add-end sub-digits part-digits-start part-digits-end digits-requires number-requires returns)
+field-of-11-spec =
+    tie.close
+    (tie.spec
+    (λ c. search needs)
+    (λ c. search needs)
+    (λ c. search needs)
+    (λ c. search needs)
+    (λ c κs. search needs)
+    (λ c κs. search needs)
+    returns)

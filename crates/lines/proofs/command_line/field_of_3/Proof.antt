@@ -8,18 +8,6 @@ use borrow.Author.Needs.{needs}
 use Rattle.lines.proofs.command_line.field_of_3.Statement.{statement}
 use Rattle.lines.proofs.command_line.field_of_3.Tie as tie
 
-add-end : tie.Need-add-end
-add-end c = search needs
-
-sub-digits : tie.Need-sub-digits
-sub-digits c = search needs
-
-part-digits-start : tie.Need-part-digits-start
-part-digits-start c = search needs
-
-part-digits-end : tie.Need-part-digits-end
-part-digits-end c = search needs
-
 digits-requires : tie.Need-digits-requires
 digits-requires c κs = search needs
 
@@ -35,10 +23,10 @@ pub field-of-3-spec : {M : Type 1} → statement M
 field-of-3-spec =
     tie.close
     (tie.spec
-    add-end
-    sub-digits
-    part-digits-start
-    part-digits-end
+    (λ c. search needs)
+    (λ c. search needs)
+    (λ c. search needs)
+    (λ c. search needs)
     digits-requires
     number-requires
     returns)

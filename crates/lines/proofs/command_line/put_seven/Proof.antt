@@ -7,9 +7,6 @@ use borrow.Author.Needs.{needs}
 use Rattle.lines.proofs.command_line.put_seven.Statement.{statement}
 use Rattle.lines.proofs.command_line.put_seven.Tie as tie
 
-slice-write-f : tie.Need-slice-write-f
-slice-write-f c = search needs
-
 slice-write-f-2 : tie.Need-slice-write-f-2
 slice-write-f-2 c = simp length-set (omega (arith, c .pre))
 
@@ -28,9 +25,6 @@ slice-write-f-6 c = simp length-set (omega (arith, c .pre))
 slice-write-f-7 : tie.Need-slice-write-f-7
 slice-write-f-7 c = simp length-set (omega (arith, c .pre))
 
-same-length : tie.Need-same-length
-same-length c = search needs
-
 returns : tie.Need-returns
 returns c = sets-eq (c .args .n ∷ c .args .t ∷ c .args .a ∷ c .args .b ∷ c .args .u ∷ c .args .v ∷ c .args .w ∷ []) (c .args .f .now) 0 (c .pre)
 
@@ -38,12 +32,12 @@ pub put-seven-spec : {M : Type 1} → statement M
 put-seven-spec =
     tie.close
     (tie.spec
-    slice-write-f
+    (λ c. search needs)
     slice-write-f-2
     slice-write-f-3
     slice-write-f-4
     slice-write-f-5
     slice-write-f-6
     slice-write-f-7
-    same-length
+    (λ c. search needs)
     returns)

@@ -5,9 +5,6 @@ use borrow.Author.Needs.{needs}
 use Rattle.lines.proofs.field.leading_zero.Statement.{statement}
 use Rattle.lines.proofs.field.leading_zero.Tie as tie
 
-shared-slice-read-result : tie.Need-shared-slice-read-result
-shared-slice-read-result c = search needs
-
 returns : tie.Need-returns
 unfolding leadingZero
 returns c = simp (lt-ltb _ _ (c .before .if1 .taken))
@@ -17,4 +14,4 @@ unfolding leadingZero
 returns-2 c = simp (le-ltb _ _ (c .if1 .left))
 
 pub leading-zero-spec : {M : Type 1} → statement M
-leading-zero-spec = tie.close (tie.spec shared-slice-read-result returns returns-2)
+leading-zero-spec = tie.close (tie.spec (λ c. search needs) returns returns-2)

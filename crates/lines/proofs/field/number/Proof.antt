@@ -12,9 +12,6 @@ returns : tie.Need-returns
 unfolding number
 returns c = simp (eq-eqb _ _ (c .if1 .taken))
 
-leading-zero-requires : tie.Need-leading-zero-requires
-leading-zero-requires c κs = search needs
-
 returns-2 : tie.Need-returns-2
 unfolding number
 returns-2 c = simp (c .if2 .taken, ← c .before .leading-zero .ensures, ne-eqb _ _ (c .before .before .if1 .left))
@@ -25,13 +22,17 @@ returns-3 c =
     let z : leadingZero (c .before .before .before .before .before .args .digits .now) ≡ false = sym (c .before .before .leading-zero .ensures) ∙ c .before .if2 .left in
     rw (ne-eqb _ _ (c .before .before .before .if1 .left), z) (long-ill (c .before .before .before .before .before .args .digits .now) (c .if3 .taken) z)
 
-value-requires : tie.Need-value-requires
-value-requires c κs = search needs
-
 returns-4 : tie.Need-returns-4
 unfolding number
 returns-4 c = simp (← c .value .ensures, c .before .before .if2 .left, ← c .before .before .before .leading-zero .ensures, ne-eqb _ _ (c .before .before .before .before .if1 .left))
 
 pub number-spec : {M : Type 1} → statement M
 number-spec =
-    tie.close (tie.spec returns leading-zero-requires returns-2 returns-3 value-requires returns-4)
+    tie.close
+    (tie.spec
+    returns
+    (λ c κs. search needs)
+    returns-2
+    returns-3
+    (λ c κs. search needs)
+    returns-4)

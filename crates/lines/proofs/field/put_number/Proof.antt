@@ -16,9 +16,6 @@ abbrev μ-loop : tie.MeasureT-loop
 returns : tie.Need-returns Inv-loop μ-loop
 returns c = spelt-none (c .before .before .args .field .now) (c .before .before .args .n) (c .if1 .taken)
 
-put-ten-requires : tie.Need-put-ten-requires Inv-loop μ-loop
-put-ten-requires c κs = search needs
-
 returns-2 : tie.Need-returns-2 Inv-loop μ-loop
 returns-2 c = rw (c .before .before .before .before .before .if2 .taken) (c .before .before .put-ten .ensures)
 
@@ -43,9 +40,6 @@ loop-holds c = (simp length-set, spelt-one (c .before .before .before .args .fie
 sub-i-2 : tie.Need-sub-i-2 Inv-loop μ-loop
 sub-i-2 c = omega arith
 
-glyph-requires : tie.Need-glyph-requires Inv-loop μ-loop
-glyph-requires c κs = search needs
-
 slice-write-field-2 : tie.Need-slice-write-field-2 Inv-loop μ-loop
 slice-write-field-2 c = omega (arith, c .before .before .loop .inv .1)
 
@@ -68,7 +62,7 @@ put-number-spec =
     Inv-loop
     μ-loop
     returns
-    put-ten-requires
+    (λ c κs. search needs)
     same-length
     returns-2
     sub-i
@@ -77,7 +71,7 @@ put-number-spec =
     slice-write-field
     loop-holds
     sub-i-2
-    glyph-requires
+    (λ c κs. search needs)
     slice-write-field-2
     loop-less
     loop-again

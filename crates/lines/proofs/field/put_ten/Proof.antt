@@ -9,24 +9,6 @@ use borrow.Author.Needs.{needs}
 use Rattle.lines.proofs.field.put_ten.Statement.{statement}
 use Rattle.lines.proofs.field.put_ten.Tie as tie
 
-put-pair-requires : tie.Need-put-pair-requires
-put-pair-requires c κs = search needs
-
-put-pair-requires-2 : tie.Need-put-pair-requires-2
-put-pair-requires-2 c κs = search needs
-
-put-pair-requires-3 : tie.Need-put-pair-requires-3
-put-pair-requires-3 c κs = search needs
-
-put-pair-requires-4 : tie.Need-put-pair-requires-4
-put-pair-requires-4 c κs = search needs
-
-put-pair-requires-5 : tie.Need-put-pair-requires-5
-put-pair-requires-5 c κs = search needs
-
-slice-write-field : tie.Need-slice-write-field
-slice-write-field c = search needs
-
 returns : tie.Need-returns
 unfolding glyph
 returns c =
@@ -46,11 +28,11 @@ pub put-ten-spec : {M : Type 1} → statement M
 put-ten-spec =
     tie.close
     (tie.spec
-    put-pair-requires
-    put-pair-requires-2
-    put-pair-requires-3
-    put-pair-requires-4
-    put-pair-requires-5
-    slice-write-field
+    (λ c κs. search needs)
+    (λ c κs. search needs)
+    (λ c κs. search needs)
+    (λ c κs. search needs)
+    (λ c κs. search needs)
+    (λ c. search needs)
     same-length
     returns)

@@ -36,9 +36,6 @@ add-loop c = omega (arith, c .loop .inv .within)
 shared-slice-read-digit : tie.Need-shared-slice-read-digit Inv-loop μ-loop
 shared-slice-read-digit c = omega (arith, c .before .loop-test .taken)
 
-digit-requires : tie.Need-digit-requires Inv-loop μ-loop
-digit-requires c κs = search needs
-
 returns : tie.Need-returns Inv-loop μ-loop
 returns c = reads-other _ _ _ (c .before .before .before .before .loop .inv) (omega (arith, c .before .before .before .loop-test .taken)) (c .before .digit .ensures .other (omega arith))
 
@@ -47,9 +44,6 @@ add-digit c = omega (arith, c .before .before .before .before .loop .inv .within
 
 shared-slice-read-digit-2 : tie.Need-shared-slice-read-digit-2 Inv-loop μ-loop
 shared-slice-read-digit-2 c = omega (arith, c .before .before .before .before .loop-test .taken)
-
-digit-requires-2 : tie.Need-digit-requires-2 Inv-loop μ-loop
-digit-requires-2 c κs = search needs
 
 returns-2 : tie.Need-returns-2 Inv-loop μ-loop
 returns-2 c =
@@ -87,9 +81,6 @@ loop-again c =
 shared-slice-read-digit-3 : tie.Need-shared-slice-read-digit-3 Inv-loop μ-loop
 shared-slice-read-digit-3 c = omega (arith, c .before .if3 .taken)
 
-digit-requires-3 : tie.Need-digit-requires-3 Inv-loop μ-loop
-digit-requires-3 c κs = search needs
-
 returns-3 : tie.Need-returns-3 Inv-loop μ-loop
 returns-3 c = reads-other _ _ _ (c .before .before .before .before .before .loop .inv) (c .before .before .before .if3 .taken) (c .before .digit3 .ensures .other (omega arith))
 
@@ -99,9 +90,6 @@ mul-limited c = omega (arith, small-last c)
 add-limited : tie.Need-add-limited Inv-loop μ-loop
 add-limited c = omega (arith, small-last c)
 
-limited-requires : tie.Need-limited-requires Inv-loop μ-loop
-limited-requires c κs = search needs
-
 returns-4 : tie.Need-returns-4 Inv-loop μ-loop
 returns-4 c =
     let at-if4 = c .before in
@@ -109,9 +97,6 @@ returns-4 c =
     let at-loop-test = at-if3 .before in
     let more = reads-more _ _ _ (at-loop-test .before .loop .inv) (at-if3 .if3 .taken) _ (at-if4 .before .digit3 .ensures .digit (omega arith)) (omega arith) in
     c .limited .ensures ∙ reads-all _ _ _ more (omega (arith, at-loop-test .loop-test .left))
-
-limited-requires-2 : tie.Need-limited-requires-2 Inv-loop μ-loop
-limited-requires-2 c κs = search needs
 
 returns-5 : tie.Need-returns-5 Inv-loop μ-loop
 returns-5 c = c .limited2 .ensures ∙ reads-all _ _ _ (c .before .before .before .loop .inv) (c .before .if3 .left)
@@ -125,11 +110,11 @@ value-spec =
     loop-holds
     add-loop
     shared-slice-read-digit
-    digit-requires
+    (λ c κs. search needs)
     returns
     add-digit
     shared-slice-read-digit-2
-    digit-requires-2
+    (λ c κs. search needs)
     returns-2
     mul-n
     add-n
@@ -139,11 +124,11 @@ value-spec =
     loop-less
     loop-again
     shared-slice-read-digit-3
-    digit-requires-3
+    (λ c κs. search needs)
     returns-3
     mul-limited
     add-limited
-    limited-requires
+    (λ c κs. search needs)
     returns-4
-    limited-requires-2
+    (λ c κs. search needs)
     returns-5)

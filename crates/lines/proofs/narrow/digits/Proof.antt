@@ -15,27 +15,6 @@ few c = two-below _ _ (c .before .before .is-blank2 .ensures .0) (c .is-blank3 .
 few-more : (c : tie.After-is-blank3) → c .before .before .before .before .is-blank .result * (1 + c .before .before .is-blank2 .result * (1 + c .is-blank3 .result)) ≤ 3
 few-more c = three-below _ _ _ (c .before .before .before .before .is-blank .ensures .0) (c .before .before .is-blank2 .ensures .0) (c .is-blank3 .ensures .0)
 
-shared-slice-read-is-blank : tie.Need-shared-slice-read-is-blank
-shared-slice-read-is-blank c = search needs
-
-is-blank-requires : tie.Need-is-blank-requires
-is-blank-requires c κs = search needs
-
-shared-slice-read-is-blank-2 : tie.Need-shared-slice-read-is-blank-2
-shared-slice-read-is-blank-2 c = search needs
-
-is-blank-requires-2 : tie.Need-is-blank-requires-2
-is-blank-requires-2 c κs = search needs
-
-shared-slice-read-is-blank-3 : tie.Need-shared-slice-read-is-blank-3
-shared-slice-read-is-blank-3 c = search needs
-
-is-blank-requires-3 : tie.Need-is-blank-requires-3
-is-blank-requires-3 c κs = search needs
-
-add-blanks : tie.Need-add-blanks
-add-blanks c = search needs
-
 mul-blanks : tie.Need-mul-blanks
 mul-blanks c = omega (arith, few c)
 
@@ -51,9 +30,6 @@ sub-result c = omega (arith, few-more c)
 part-result-start : tie.Need-part-result-start
 part-result-start c = omega (arith, few-more c)
 
-part-result-end : tie.Need-part-result-end
-part-result-end c = search needs
-
 returns : tie.Need-returns
 returns c =
     let at-first = c .before .before .before .before .before in
@@ -66,17 +42,17 @@ pub digits-spec : {M : Type 1} → statement M
 digits-spec =
     tie.close
     (tie.spec
-    shared-slice-read-is-blank
-    is-blank-requires
-    shared-slice-read-is-blank-2
-    is-blank-requires-2
-    shared-slice-read-is-blank-3
-    is-blank-requires-3
-    add-blanks
+    (λ c. search needs)
+    (λ c κs. search needs)
+    (λ c. search needs)
+    (λ c κs. search needs)
+    (λ c. search needs)
+    (λ c κs. search needs)
+    (λ c. search needs)
     mul-blanks
     add-blanks-2
     mul-blanks-2
     sub-result
     part-result-start
-    part-result-end
+    (λ c. search needs)
     returns)

@@ -27,30 +27,6 @@ tens c = tens-below _ _ (omega arith) (short c)
 returns : tie.Need-returns
 returns c = none-ill _ (c .if1 .taken)
 
-sub-hundreds : tie.Need-sub-hundreds
-sub-hundreds c = search needs
-
-shared-slice-read-digit : tie.Need-shared-slice-read-digit
-shared-slice-read-digit c = search needs
-
-digit-requires : tie.Need-digit-requires
-digit-requires c κs = search needs
-
-shared-slice-read-digit-2 : tie.Need-shared-slice-read-digit-2
-shared-slice-read-digit-2 c = search needs
-
-digit-requires-2 : tie.Need-digit-requires-2
-digit-requires-2 c κs = search needs
-
-sub-digit : tie.Need-sub-digit
-sub-digit c = search needs
-
-shared-slice-read-digit-3 : tie.Need-shared-slice-read-digit-3
-shared-slice-read-digit-3 c = search needs
-
-digit-requires-3 : tie.Need-digit-requires-3
-digit-requires-3 c κs = search needs
-
 returns-2 : tie.Need-returns-2
 returns-2 c = other-ill _ 0 (omega arith) (c .before .before .before .before .before .digit .ensures .other (omega arith))
 
@@ -63,14 +39,8 @@ returns-4 c = other-ill _ _ (omega arith) (c .before .before .before .digit3 .en
 returns-5 : tie.Need-returns-5
 returns-5 c = zero-ill _ _ (c .before .before .before .before .before .before .before .before .before .before .before .before .pre) (c .before .before .before .before .before .before .before .before .digit .ensures .digit (omega arith)) (omega arith)
 
-mul-t14 : tie.Need-mul-t14
-mul-t14 c = search needs
-
 mul-t16 : tie.Need-mul-t16
 mul-t16 c = omega (arith, hundreds c)
-
-mul-t17 : tie.Need-mul-t17
-mul-t17 c = search needs
 
 mul-t19 : tie.Need-mul-t19
 mul-t19 c = omega (arith, tens c)
@@ -96,21 +66,21 @@ number-spec =
     tie.close
     (tie.spec
     returns
-    sub-hundreds
-    shared-slice-read-digit
-    digit-requires
-    shared-slice-read-digit-2
-    digit-requires-2
-    sub-digit
-    shared-slice-read-digit-3
-    digit-requires-3
+    (λ c. search needs)
+    (λ c. search needs)
+    (λ c κs. search needs)
+    (λ c. search needs)
+    (λ c κs. search needs)
+    (λ c. search needs)
+    (λ c. search needs)
+    (λ c κs. search needs)
     returns-2
     returns-3
     returns-4
     returns-5
-    mul-t14
+    (λ c. search needs)
     mul-t16
-    mul-t17
+    (λ c. search needs)
     mul-t19
     add-t20
     add-t21
