@@ -1,4 +1,4 @@
--- Of n / c rounded to p digits: how large the kept number is, and from where on the result reaches 2 ^ (p + 1 + e). Assumes nothing.
+-- Of n / c rounded to p bits: how large the kept number is, and from where on the result reaches 2 ^ (p + 1 + e). Assumes nothing.
 use mathlib.Core.Path.{_≡_, sym, ap, _∙_, subst}
 use mathlib.Core.Logic.{inl, inr}
 use Prim.Native.Nat.{ℕ, zero, suc, _+_, _-_, _*_, _/_, _%_, _^_, _≤_, _<_, compare}
@@ -14,7 +14,7 @@ use Rattle.laws.specs.Within.{distance, Within}
 use Rattle.laws.proofs.ClosestLaws.{closest-near, closest-tie}
 use Rattle.laws.proofs.ValueLaws.{size-more}
 
--- ---- the kept number: at most 2 ^ p, and where any digits are dropped at least 2 ^ (p - 1)
+-- ---- the kept number: at most 2 ^ p, and where any bits are dropped at least 2 ^ (p - 1)
 pub kept-le : (p n c : ℕ) → kept p n c ≤ 2 ^ p
 kept-le p n c =
     let u = c * 2 ^ drop p n c in
@@ -84,7 +84,7 @@ kept-under p e n c C h =
         let k = mul-right-comm h 2 c in
         omega arith
 
--- ---- from there on it is not: it drops more than e digits
+-- ---- from there on it is not: it drops more than e bits
 many-dropped : (p e n c : ℕ) → 0 < c → 2 ^ (suc p + e) * c ≤ n + 2 ^ e * c → suc e ≤ drop p n c
 many-dropped p e n c C h =
     dropped p e (size (n / c))

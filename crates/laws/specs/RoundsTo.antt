@@ -32,7 +32,7 @@ pub record RoundsTo (f : Format) (s : Bool) (a c : ℕ) (r : Float) : Type 0 whe
   pub beyond : limit f * c ≤ a → r ≡ inf s
   -- no finite value of the format is nearer
   pub nearest : T (finite r) → (y : Float) → T (fits f y) → T (finite y) → off f r s a c ≤ off f y s a c
-  -- and where another one is as near, the last digit of r is even
+  -- and where another one is as near, the last bit of r is 0
   pub even : T (finite r) → (y : Float) → T (fits f y) → T (finite y) → off f r s a c ≡ off f y s a c → (r ≡ y → ⊥) → toBits f r % 2 ≡ 0
 
 -- This leaves no choice: two results with the same meaning are equal.

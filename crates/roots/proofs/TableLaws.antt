@@ -10,7 +10,7 @@ use lib.ListN.{length, getD}
 use lib.Ieee.Fits.{and-l, and-r}
 
 module _ {A : Type 0} (f : ℕ → A → Bool) where
-  -- the test f passes at each entry of the list and its place, counted from i
+  -- the test f passes at each entry of the list and its index, counted from i
   abbrev pub every : ℕ → List A → Bool
   every i [] = true
   every i (x ∷ xs) = f i x && every (suc i) xs

@@ -1,4 +1,4 @@
--- The fused product is what specs/FusedMeaning says. Assumes nothing.
+-- The fused multiply-add is what specs/FusedMeaning says. Assumes nothing.
 use mathlib.Core.Path.{_≡_, refl, sym, ap, ap₂, _∙_, subst}
 use mathlib.Core.Bool.{Bool, true, false, _&&_}
 use mathlib.Core.List.{[], _∷_}

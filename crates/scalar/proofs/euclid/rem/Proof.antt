@@ -63,12 +63,12 @@ returns-3 c =
 rest-requires : tie.Need-rest-requires
 rest-requires c κs =
     let n = c .before .before .before in
-    (dividend (first n) .1 .digits, some (c .before), divisor n .1 .digits)
+    (dividend (first n) .1 .bits, some (c .before), divisor n .1 .bits)
 
 pack-exact-requires : tie.Need-pack-exact-requires
 pack-exact-requires c κs =
     let n = c .before .before .before .before in
-    (subst (λ (x : ℕ). x < 2 ^ 24) (sym (c .rest .ensures)) (lt-trans (mod-lt _ (some (c .before .before))) (divisor n .1 .digits)), divisor n .1 .range)
+    (subst (λ (x : ℕ). x < 2 ^ 24) (sym (c .rest .ensures)) (lt-trans (mod-lt _ (some (c .before .before))) (divisor n .1 .bits)), divisor n .1 .range)
 
 returns-4 : tie.Need-returns-4
 returns-4 c =

@@ -11,7 +11,7 @@ use Rattle.scalar.proofs.FusedLaws.{plain-first, plain-second, other-te
 use Rattle.scalar.proofs.fused.mul_add.Statement.{statement}
 use Rattle.scalar.proofs.fused.mul_add.Tie as tie
 
--- the places: after a, b and c are taken apart
+-- where a and where b has been taken apart
 abbrev first : tie.After-t → tie.After-s
 first c = c .before .before .before .before
 

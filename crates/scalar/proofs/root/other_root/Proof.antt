@@ -51,7 +51,7 @@ returns-3 c =
 
 -- its significand is not zero
 positive : (c : tie.Else3) → Positive (c .before .before .before .s2 .given .0 .1 .0) (c .before .before .before .s2 .given .0 .1 .1 .0)
-positive c = let p = parts (c .before .before .before) in record { some = some (c .before); digits = p .1 .digits; range = p .1 .range }
+positive c = let p = parts (c .before .before .before) in record { some = some (c .before); bits = p .1 .bits; range = p .1 .range }
 
 shift-of-requires : tie.Need-shift-of-requires
 shift-of-requires c κs = positive c

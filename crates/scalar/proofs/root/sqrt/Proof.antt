@@ -36,7 +36,7 @@ root-of-requires : tie.Need-root-of-requires
 root-of-requires c κs =
     let p = parts c in
     let b = toBits binary32 (c .before .before .before .args .x) in
-    (record { some = omega arith; digits = p .digits; range = p .range }, shift-normal (b % 8388608 + 8388608) (b / 8388608 - 1) (omega arith) (p .digits))
+    (record { some = omega arith; bits = p .bits; range = p .range }, shift-normal (b % 8388608 + 8388608) (b / 8388608 - 1) (omega arith) (p .bits))
 
 returns-2 : tie.Need-returns-2
 returns-2 c =
