@@ -6,7 +6,7 @@ use mathlib.Core.List.{[], _∷_}
 use Prim.Native.Nat.{ℕ, zero, suc, _+_, _-_, _*_, _/_, _%_, _≤_, _<_}
 use native.Mathlib.Nat.{lt-irrefl, le-of-lt, add-mul, mul-comm, lt-of-mul-lt-mul-right, mul-div-cancel, div-div-eq-div-mul, mod-lt, div-add-mod', div-lt-iff-lt-mul, le-div-iff-mul-le}
 use native.Mathlib.Omega.{arith}
-use lib.Dec.{eqb, eqb·suc-zero}
+use lib.Dec.{eqb·suc-zero}
 use lib.Arith.{digits-div, digits-mod}
 use lib.Ieee.Nearest.{closest}
 use Rattle.laws.specs.Sticky.{stickyBit, sticky}

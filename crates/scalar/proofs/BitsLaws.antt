@@ -9,7 +9,6 @@ use lib.Ieee.{Float, nan, inf, fin, binary32, Format, prec, low, emax, odd, unit
 use lib.Arith.{lt→nleb}
 use lib.Ieee.Bits.{ofBits-toBits, is-false}
 use lib.Ieee.Scale.{finite}
-use lib.Ieee.Fits.{core, round-is}
 use Rattle.laws.proofs.FiniteLaws.{finite-number}
 use Rattle.scalar.specs.Parts.{Split}
 

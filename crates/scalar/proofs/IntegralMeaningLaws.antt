@@ -114,7 +114,7 @@ trunc-means x fx tx =
     let d = downward (sizeIn binary32 x) (2 ^ 149) (pow-pos 149) in
     record { w = sizeIn binary32 x / 2 ^ 149; whole = integral-whole towardZero toward-zero-rule (λ s a b. le-add-right (a / b) 1) x fx tx; below = d .0; above = d .1 }
 
--- ---- downward
+-- ---- toward negative
 toward-negative-near : (s : Bool) (a b : ℕ) → towardNegative s a b ≤ a / b + 1
 toward-negative-near false a b = le-add-right (a / b) 1
 toward-negative-near true a b = go (eqb (a % b) 0)
@@ -143,7 +143,7 @@ floor-means x fx tx =
     n : ℕ
     n = sizeIn binary32 x
 
--- ---- to the nearest
+-- ---- ties to even
 ties-to-even-near : (s : Bool) (a b : ℕ) → tiesToEven s a b ≤ a / b + 1
 ties-to-even-near s a b = le-trans (nearest-le (a / b) (compare (a % b * 2) b)) (le-of-eq (sym (add-one (a / b))))
 

@@ -39,7 +39,7 @@ ulp-size n k h l = go k refl
         next : (k : ℕ) → 24 + k ≡ suc (23 + k)
         next k = omega arith
 
--- and for one k it does
+-- and for one k it does: the exponent of the unit in the last place, counted from the smallest value's
 abbrev pub ulpOf : ℕ → ℕ
 ulpOf n = size (n / 2 ^ 277) - 24
 

@@ -13,15 +13,15 @@ integral by nan = nan
 integral by (inf s) = inf s
 integral by (fin s m e) = round binary32 s (by s (m * up e) (down e)) 1
 
--- toward zero: truncated
+-- roundTowardZero: truncated
 abbrev pub towardZero : Bool → ℕ → ℕ → ℕ
 towardZero s a b = a / b
 
--- downward: away from zero where the number is negative
+-- roundTowardNegative: away from zero where the number is negative
 abbrev pub towardNegative : Bool → ℕ → ℕ → ℕ
 towardNegative s a b = cond s (a / b + cond (eqb (a % b) 0) 0 1) (a / b)
 
--- to the nearest, a tie to the even one
+-- roundTiesToEven: to nearest even
 abbrev pub tiesToEven : Bool → ℕ → ℕ → ℕ
 tiesToEven s a b = closest a b
 

@@ -7,21 +7,6 @@ use Rattle.scalar.proofs.AlignLaws.{aligned-sum, aligned-fit}
 use Rattle.scalar.proofs.fused.aligned.Statement.{statement}
 use Rattle.scalar.proofs.fused.aligned.Tie as tie
 
-higher-requires : tie.Need-higher-requires
-higher-requires c κs = search needs
-
-sub-shift-right-sticky : tie.Need-sub-shift-right-sticky
-sub-shift-right-sticky c = search needs
-
-shift-right-sticky-requires : tie.Need-shift-right-sticky-requires
-shift-right-sticky-requires c κs = search needs
-
-sub-shift-right-sticky-2 : tie.Need-sub-shift-right-sticky-2
-sub-shift-right-sticky-2 c = search needs
-
-shift-right-sticky-requires-2 : tie.Need-shift-right-sticky-requires-2
-shift-right-sticky-requires-2 c κs = search needs
-
 sum-requires : tie.Need-sum-requires
 sum-requires c κs =
     let h = c .before .before in
@@ -42,4 +27,11 @@ returns c =
 pub aligned-spec : {M : Type 1} → statement M
 aligned-spec =
     tie.close
-    (tie.spec higher-requires sub-shift-right-sticky shift-right-sticky-requires sub-shift-right-sticky-2 shift-right-sticky-requires-2 sum-requires returns)
+    (tie.spec
+    (λ c κs. search needs)
+    (λ c. search needs)
+    (λ c κs. search needs)
+    (λ c. search needs)
+    (λ c κs. search needs)
+    sum-requires
+    returns)

@@ -9,9 +9,6 @@ use Rattle.scalar.proofs.integral.fraction_bits.Tie as tie
 returns : tie.Need-returns
 returns c = fraction-bits-small (c .before .args .e) (c .if1 .taken)
 
-sub-result : tie.Need-sub-result
-sub-result c = search needs
-
 returns-2 : tie.Need-returns-2
 returns-2 c = fraction-bits-other (c .before .before .args .e) _ (omega arith) refl
 
@@ -19,4 +16,4 @@ returns-3 : tie.Need-returns-3
 returns-3 c = fraction-bits-other (c .before .before .args .e) 0 (omega arith) (omega arith)
 
 pub fraction-bits-spec : {M : Type 1} → statement M
-fraction-bits-spec = tie.close (tie.spec returns sub-result returns-2 returns-3)
+fraction-bits-spec = tie.close (tie.spec returns (λ c. search needs) returns-2 returns-3)

@@ -10,14 +10,8 @@ use Rattle.scalar.proofs.round_pack.normalized.Tie as tie
 word : (c : tie.Start) → c .args .v < 18446744073709551616
 word c = omega arith
 
-shift-right-sticky-requires : tie.Need-shift-right-sticky-requires
-shift-right-sticky-requires c κs = search needs
-
 returns : tie.Need-returns
 returns c = let s = c .before .before in normalized-full (s .args .v) (s .pre) (word s) (c .shift-right-sticky .result) (c .before .if1 .taken) (c .shift-right-sticky .ensures)
-
-sub-result : tie.Need-sub-result
-sub-result c = search needs
 
 cast-result : tie.Need-cast-result
 cast-result c = let s = c .before in omega (arith, leading-lt 64 (s .args .v) (s .pre) (word s))
@@ -29,4 +23,12 @@ returns-2 : tie.Need-returns-2
 returns-2 c = let s = c .before in normalized-shifted (s .args .v) (s .pre) (word s) (c .if1 .left)
 
 pub normalized-spec : {M : Type 1} → statement M
-normalized-spec = tie.close (tie.spec shift-right-sticky-requires returns sub-result cast-result shl-result returns-2)
+normalized-spec =
+    tie.close
+    (tie.spec
+    (λ c κs. search needs)
+    returns
+    (λ c. search needs)
+    cast-result
+    shl-result
+    returns-2)
