@@ -38,12 +38,13 @@ shift l (negsuc k) h =
       same = one-mul (2 ^ l) ∙ ap (λ (x : ℕ). 2 ^ x) (sym (back l (suc k) (pow-below k l (lt-of-lt-of-le (pow-lt (le-refl (suc k))) h)))) ∙ pow-add 2 (l - suc k) (suc k);
     }
 
+-- x is ±bits * 2 ^ exponent smallest values
 pub record Significand (f : Format) (x : Float) : Type 0 where
-  pub kept : ℕ
-  pub zeros : ℕ
-  pub few : kept < 2 ^ prec f
-  pub value : Value f x (negative x) (kept * 2 ^ zeros)
-  pub below : kept * 2 ^ zeros < overflow f
+  pub bits : ℕ
+  pub exponent : ℕ
+  pub few : bits < 2 ^ prec f
+  pub value : Value f x (negative x) (bits * 2 ^ exponent)
+  pub below : bits * 2 ^ exponent < overflow f
 
 pub significand : (f : Format) (x : Float) → T (fits f x) → T (finite x) → Significand f x
 unfolding negative fits
@@ -51,8 +52,8 @@ significand f nan h t = absurd t
 significand f (inf s) h t = absurd t
 significand f (fin s zero e) h t =
     record {
-      kept = 0;
-      zeros = 0;
+      bits = 0;
+      exponent = 0;
       few = pow-pos (prec f);
       value = (refl, ap (λ (x : ℕ). x * 2 ^ low f) (zero-mul (up e)) ∙ zero-mul (2 ^ low f) ∙ sym (zero-mul (down e)));
       below = pow-pos (low f + suc (emax f));
@@ -66,8 +67,8 @@ significand f (fin s (suc m) e) h t =
     let v : suc m * up e * 2 ^ low f ≡ suc m * 2 ^ r .exponent * down e =
     mul-assoc (suc m) (up e) (2 ^ low f) ∙ ap (λ (x : ℕ). suc m * x) (r .same) ∙ sym (mul-assoc (suc m) (2 ^ r .exponent) (down e)) in
     record {
-      kept = suc m;
-      zeros = r .exponent;
+      bits = suc m;
+      exponent = r .exponent;
       few = ltb→lt (suc m) (2 ^ prec f) (and-r odd short (and-l (odd && short) fine h3));
       value = (refl, v);
       below =
@@ -85,12 +86,12 @@ significand f (fin s (suc m) e) h t =
 pub value-of-size : (f : Format) (x : Float) → T (fits f x) → T (finite x) → Value f x (negative x) (sizeIn f x)
 value-of-size f x h t =
     let d = significand f x h t in
-    subst (λ (N : ℕ). Value f x (negative x) N) (sym (size-of-value f x (negative x) (d .kept * 2 ^ d .zeros) (d .value) .0)) (d .value)
+    subst (λ (N : ℕ). Value f x (negative x) N) (sym (size-of-value f x (negative x) (d .bits * 2 ^ d .exponent) (d .value) .0)) (d .value)
 
 pub size-below : (f : Format) (x : Float) → T (fits f x) → T (finite x) → sizeIn f x < overflow f
 size-below f x h t =
     let d = significand f x h t in
-    subst (λ (N : ℕ). N < overflow f) (sym (size-of-value f x (negative x) (d .kept * 2 ^ d .zeros) (d .value) .0)) (d .below)
+    subst (λ (N : ℕ). N < overflow f) (sym (size-of-value f x (negative x) (d .bits * 2 ^ d .exponent) (d .value) .0)) (d .below)
 
 -- the sign and the size tell the value
 pub size-unique : (f : Format) (x y : Float) → T (fits f x) → T (fits f y) → T (finite x) → T (finite y) → negative x ≡ negative y → sizeIn f x ≡ sizeIn f y → x ≡ y
@@ -104,10 +105,10 @@ coarse f x j h t l =
     (m * 2 ^ (z - j), is ∙ ap (λ (i : ℕ). m * 2 ^ i) (sym (back z j enough)) ∙ ap (λ (y : ℕ). m * y) (pow-add 2 (z - j) j) ∙ sym (mul-assoc m (2 ^ (z - j)) (2 ^ j)))
   where
     m : ℕ
-    m = significand f x h t .kept
+    m = significand f x h t .bits
 
     z : ℕ
-    z = significand f x h t .zeros
+    z = significand f x h t .exponent
 
     is : sizeIn f x ≡ m * 2 ^ z
     is = size-of-value f x (negative x) (m * 2 ^ z) (significand f x h t .value) .0

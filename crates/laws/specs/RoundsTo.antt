@@ -17,7 +17,7 @@ gap s a t b = cond (Bool·beq s t) (distance a b) (a + b)
 abbrev pub off : Format → Float → Bool → ℕ → ℕ → ℕ
 off f x s a c = gap (negative x) (sizeIn f x * c) s (a * 2 ^ low f)
 
--- Half a step past the largest value: 2 ^ 128 - 2 ^ 103 in binary32.
+-- Half a unit in the last place past the largest value: 2 ^ 128 - 2 ^ 103 in binary32.
 abbrev pub limit : Format → ℕ
 limit f = (2 ^ suc (prec f) - 1) * 2 ^ (emax f - prec f)
 

@@ -101,7 +101,7 @@ start n r h l w = (
     under : (n r : ℕ) → r * r ≤ 64 * (n / 2 ^ 38) → 65536 * r * (65536 * r) ≤ n
     under n r w = omega (arith, table-square r)
 
--- ---- the first step, from 16384 d, with a quotient that may be 4 short
+-- ---- the first step, from 16384 d, with a quotient that is short by less than 4
 pub first-step : (n r : ℕ) → 2 ^ 46 ≤ n → n < 2 ^ 48 → WholeRoot (64 * (n / 2 ^ 38)) r → AboveRoot n 399 (8192 * (4 * r + 5) + 2 * (n / 65536 / (4 * r + 5)) + 2)
 first-step n r h l w =
     let s = start n r h l w in

@@ -16,7 +16,7 @@ const FULL: u32 = BIAS - 149 - 40;
 // Up to it the bits below the smallest value, 2 ^ -149, are dropped: of 63 bits one less than of 64.
 const LOW: u32 = BIAS - 149 - 1;
 
-// The f32 nearest to ±v times 2 ^ (e - BIAS), a tie to the even one: rounded once.
+// ±v times 2 ^ (e - BIAS) as an f32, rounded once to nearest even.
 pub fn round_pack(negative: bool, v: u64, e: u32) -> f32
     ensures { λ r. ⌜ r ≡ Ieee.round binary32 negative (v * 2 ^ e) (2 ^ 426) ⌝ }
 {
