@@ -1,4 +1,4 @@
--- `closest n u`, the whole number nearest to n / u with a tie to the even one: how near it is, and that none is nearer. Assumes nothing.
+-- `closest n u`, n / u rounded to nearest even: how near it is, and that none is nearer. Assumes nothing.
 use mathlib.Core.Path.{_≡_, sym, ap, subst}
 use Prim.Native.Nat.{ℕ, _+_, _*_, _/_, _%_, _≤_, _<_, compare, Ordering, Ordering·lt, Ordering·eq, Ordering·gt}
 use native.Mathlib.Nat.{le-of-eq, le-antisymm, lt-of-not-le, add-mul, suc-mul, mul-le-mul-right, mod-lt, div-add-mod'}
@@ -66,7 +66,7 @@ closest-tie n u w U d e =
     (subst (λ (m : ℕ). distance (closest n u * u) m * 2 ≡ u) (sym (div-add-mod' n u))
     (halfway n u (closest n u) w (compare (closest n u) w) (cmp (closest n u) w) d (closest-near n u U) e))
 
--- ---- a multiple of u at most half a step from n is the nearest one, or one of two that are as near
+-- ---- a multiple of u at most u / 2 from n is the nearest one, or one of two that are as near
 pub near-of-best : (n u q w : ℕ) → Within (q * u * 2) (n * 2) u → distance (w * u) n ≤ distance (q * u) n → Within (w * u * 2) (n * 2) u
 near-of-best n u q w h l = (omega arith, omega arith)
 

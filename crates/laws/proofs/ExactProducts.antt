@@ -13,7 +13,7 @@ use Rattle.laws.specs.Exact.{negative}
 use Rattle.laws.proofs.Ring.{var, _⊗_}
 use Rattle.laws.proofs.RingNat.{ring}
 use Rattle.laws.proofs.ValueLaws.{Value, value-finite, value-same}
-use Rattle.laws.proofs.SizeLaws.{Digits, digits, size-of-value, size-below}
+use Rattle.laws.proofs.SizeLaws.{Significand, significand, size-of-value, size-below}
 use Rattle.laws.proofs.GridErrorLaws.{unit}
 use Rattle.laws.proofs.OperationLaws.{mul-at}
 
@@ -21,20 +21,20 @@ module _ (f : Format) (u x : Float) (t s : Bool) (n : ℕ) (F : T (fits f x)) (k
   number : T (finite x)
   number = value-finite x s n (unit f) k
 
-  w : Digits f x
-  w = digits f x F number
+  w : Significand f x
+  w = significand f x F number
 
-  digits-are : n ≡ w .kept * 2 ^ w .zeros
-  digits-are = sym (size-of-value f x s n k .0) ∙ size-of-value f x (negative x) (w .kept * 2 ^ w .zeros) (w .value) .0
+  significand-is : n ≡ w .bits * 2 ^ w .exponent
+  significand-is = sym (size-of-value f x s n k .0) ∙ size-of-value f x (negative x) (w .bits * 2 ^ w .exponent) (w .value) .0
 
   pub power-times : (g : ℕ) → Value f u t (unit f * 2 ^ g) → n * 2 ^ g < overflow f → Value f (mul f u x) (unlike t s) (n * 2 ^ g)
   power-times g h under =
       let l = unit f in
       let L : 0 < l * l = mul-pos (pow-pos (low f)) (pow-pos (low f)) in
-      let e : n * 2 ^ g ≡ w .kept * 2 ^ (w .zeros + g) = ap (λ (y : ℕ). y * 2 ^ g) digits-are ∙ mul-assoc (w .kept) (2 ^ w .zeros) (2 ^ g) ∙ ap (λ (y : ℕ). w .kept * y) (sym (pow-add 2 (w .zeros) g)) in
+      let e : n * 2 ^ g ≡ w .bits * 2 ^ (w .exponent + g) = ap (λ (y : ℕ). y * 2 ^ g) significand-is ∙ mul-assoc (w .bits) (2 ^ w .exponent) (2 ^ g) ∙ ap (λ (y : ℕ). w .bits * y) (sym (pow-add 2 (w .exponent) g)) in
       subst (λ (v : Float). Value f v (unlike t s) (n * 2 ^ g)) (sym (mul-at f u x t s (l * 2 ^ g) n h k))
       (value-same (round f (unlike t s) (l * 2 ^ g * n) (l * l)) (unlike t s) (l * 2 ^ g * n) (l * l) (n * 2 ^ g) l L (turn n l (2 ^ g))
-      (round-exact f (unlike t s) (l * 2 ^ g * n) (l * l) (w .kept) (w .zeros + g) L (w .few) (subst (λ (y : ℕ). y < overflow f) e under)
+      (round-exact f (unlike t s) (l * 2 ^ g * n) (l * l) (w .bits) (w .exponent + g) L (w .few) (subst (λ (y : ℕ). y < overflow f) e under)
       (turn n l (2 ^ g) ∙ ap (λ (y : ℕ). y * (l * l)) e)))
     where
       turn : (n l p : ℕ) → l * p * n * l ≡ n * p * (l * l)

@@ -33,7 +33,7 @@ low-is binary64 = refl
 fewer : (x y p : ℕ) → x ≤ y → x - p ≤ y - p
 fewer x y p h = omega arith
 
--- a fraction below 2 ^ j drops at most j - p digits
+-- a fraction below 2 ^ j drops at most j - p bits
 drop-le : (p n c j : ℕ) → 0 < c → n < 2 ^ j * c → drop p n c ≤ j - p
 drop-le p n c j C h = fewer (size (n / c)) j p (size-le (n / c) j (div-lt-iff-lt-mul C .1 h))
 
@@ -53,11 +53,11 @@ module _ (f : Format) (a c g : ℕ) (C : 0 < c) where
   up-there : a ≡ c * 2 ^ g → a * 2 ^ low f ≡ 2 ^ (low f + g) * c
   up-there e = ap (λ (x : ℕ). x * 2 ^ low f) e ∙ turn c (2 ^ g) (2 ^ low f) ∙ ap (λ (x : ℕ). x * c) (sym (pow-add 2 (low f) g))
 
-  lifted-ge : c * 2 ^ g ≤ a → 2 ^ (low f + g) * c ≤ a * 2 ^ low f
-  lifted-ge h = le-trans (le-of-eq (ap (λ (x : ℕ). x * c) (pow-add 2 (low f) g) ∙ sym (turn c (2 ^ g) (2 ^ low f)))) (mul-le-mul-right (2 ^ low f) h)
+  scaled-ge : c * 2 ^ g ≤ a → 2 ^ (low f + g) * c ≤ a * 2 ^ low f
+  scaled-ge h = le-trans (le-of-eq (ap (λ (x : ℕ). x * c) (pow-add 2 (low f) g) ∙ sym (turn c (2 ^ g) (2 ^ low f)))) (mul-le-mul-right (2 ^ low f) h)
 
-  lifted-lt : a < c * 2 ^ g → a * 2 ^ low f < 2 ^ (low f + g) * c
-  lifted-lt h = lt-of-lt-of-le (mul-lt-mul-of-pos-right h (pow-pos (low f))) (le-of-eq (turn c (2 ^ g) (2 ^ low f) ∙ ap (λ (x : ℕ). x * c) (sym (pow-add 2 (low f) g))))
+  scaled-lt : a < c * 2 ^ g → a * 2 ^ low f < 2 ^ (low f + g) * c
+  scaled-lt h = lt-of-lt-of-le (mul-lt-mul-of-pos-right h (pow-pos (low f))) (le-of-eq (turn c (2 ^ g) (2 ^ low f) ∙ ap (λ (x : ℕ). x * c) (sym (pow-add 2 (low f) g))))
 
   grid-exact : a ≡ c * 2 ^ g → grid f a c ≡ 2 ^ (low f + g)
   grid-exact e = at (drop (prec f) (a * 2 ^ low f) c) inside
@@ -94,10 +94,10 @@ module _ (f : Format) (a c g : ℕ) (C : 0 < c) where
 
   -- ---- at most 2 ^ g rounds to at most 2 ^ g
   below : a < c * 2 ^ g → drop (prec f) (a * 2 ^ low f) c ≤ emax f - 2 + g
-  below h = le-trans (drop-le (prec f) (a * 2 ^ low f) c (low f + g) C (lifted-lt h)) (le-of-eq (cut (emax f - 2) (prec f) (low f) g (low-is f)))
+  below h = le-trans (drop-le (prec f) (a * 2 ^ low f) c (low f + g) C (scaled-lt h)) (le-of-eq (dropped (emax f - 2) (prec f) (low f) g (low-is f)))
     where
-      cut : (m p l g : ℕ) → m + p ≡ l → l + g - p ≡ m + g
-      cut m p l g e = omega arith
+      dropped : (m p l g : ℕ) → m + p ≡ l → l + g - p ≡ m + g
+      dropped m p l g e = omega arith
 
   whole : (m p l g : ℕ) → m + p ≡ l → p + (m + g) ≡ l + g
   whole m p l g e = omega arith
@@ -114,7 +114,7 @@ module _ (f : Format) (a c g : ℕ) (C : 0 < c) where
   pub grid-ge : c * 2 ^ g ≤ a → 2 ^ (low f + g) ≤ grid f a c
   grid-ge h =
       let k = drop (prec f) (a * 2 ^ low f) c in
-      let K : suc (low f + g) - prec f ≤ k = drop-ge (prec f) (a * 2 ^ low f) c (low f + g) C (lifted-ge h) in
+      let K : suc (low f + g) - prec f ≤ k = drop-ge (prec f) (a * 2 ^ low f) c (low f + g) C (scaled-ge h) in
       le-trans
       (le-trans (pow-mono (reach (emax f - 2) (prec f) (low f) g k (low-is f) K)) (le-of-eq (pow-add 2 (prec f - 1) k)))
       (mul-le-mul-right (2 ^ k) (kept-ge (prec f) (a * 2 ^ low f) c (two-le-pos (prec f) (two f)) C (lt-of-lt-of-le (some (emax f - 2) (prec f) (low f) g (low-is f)) K)))

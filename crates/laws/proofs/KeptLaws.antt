@@ -1,4 +1,4 @@
--- Of n / c rounded to p digits: how large the kept number is, and from where on the result reaches 2 ^ (p + 1 + e). Assumes nothing.
+-- Of n / c rounded to p bits: how large the kept number is, and from where on the result reaches 2 ^ (p + 1 + e). Assumes nothing.
 use mathlib.Core.Path.{_≡_, sym, ap, _∙_, subst}
 use mathlib.Core.Logic.{inl, inr}
 use Prim.Native.Nat.{ℕ, zero, suc, _+_, _-_, _*_, _/_, _%_, _^_, _≤_, _<_, compare}
@@ -14,7 +14,7 @@ use Rattle.laws.specs.Within.{distance, Within}
 use Rattle.laws.proofs.ClosestLaws.{closest-near, closest-tie}
 use Rattle.laws.proofs.ValueLaws.{size-more}
 
--- ---- the kept number: at most 2 ^ p, and where any digits are dropped at least 2 ^ (p - 1)
+-- ---- the kept number: at most 2 ^ p, and where any bits are dropped at least 2 ^ (p - 1)
 pub kept-le : (p n c : ℕ) → kept p n c ≤ 2 ^ p
 kept-le p n c =
     let u = c * 2 ^ drop p n c in
@@ -36,7 +36,7 @@ kept-ge p n c P C K =
     let u = c * 2 ^ drop p n c in
     le-trans (le-div-iff-mul-le (mul-pos C (pow-pos (drop p n c))) .1 (whole-reaches p n c P C K)) (nearest-ge (n / u) (compare (n % u * 2) u))
 
--- ---- so is any w that is at most half a step from n / c, as the kept one is
+-- ---- so is any w that is at most half a unit in the last place from n / c, as the kept one is
 module _ (p n c w : ℕ) (C : 0 < c) (near : Within (w * (c * 2 ^ drop p n c) * 2) (n * 2) (c * 2 ^ drop p n c)) where
   u : ℕ
   u = c * 2 ^ drop p n c
@@ -59,7 +59,7 @@ module _ (p n c w : ℕ) (C : 0 < c) (near : Within (w * (c * 2 ^ drop p n c) * 
       short : (b u : ℕ) → 0 < u → b * u ≤ n → n * 2 ≤ w * u * 2 + u → suc w ≤ b → ⊥
       short b u U l h g = let t = mul-le-mul-right u g in omega (arith, suc-mul w u)
 
--- ---- the result is below 2 ^ (p + 1 + e) up to half a step before it, a step being 2 ^ (e + 1)
+-- ---- the result is below 2 ^ (p + 1 + e) up to half a unit in the last place before it, the unit being 2 ^ (e + 1)
 pub kept-under : (p e n c : ℕ) → 0 < c → n + 2 ^ e * c < 2 ^ (suc p + e) * c → kept p n c * 2 ^ drop p n c < 2 ^ (suc p + e)
 kept-under p e n c C h =
     lt-of-mul-lt-mul-right c
@@ -84,7 +84,7 @@ kept-under p e n c C h =
         let k = mul-right-comm h 2 c in
         omega arith
 
--- ---- from there on it is not: it drops more than e digits
+-- ---- from there on it is not: it drops more than e bits
 many-dropped : (p e n c : ℕ) → 0 < c → 2 ^ (suc p + e) * c ≤ n + 2 ^ e * c → suc e ≤ drop p n c
 many-dropped p e n c C h =
     dropped p e (size (n / c))
@@ -101,7 +101,7 @@ many-dropped p e n c C h =
         let d = mul-le-mul-right c l in
         omega arith
 
--- at half a step before m, an even number of steps, the tie goes up to m
+-- at half a unit before m, an even number of units, the tie goes up to m
 to-even : (n u m q : ℕ) → 0 < u → m % 2 ≡ 0 → ((q ≡ m → ⊥) → distance (q * u) n ≡ distance (m * u) n → q % 2 ≡ 0)
     → m * u * 2 ≤ n * 2 + u → n * 2 ≤ q * u * 2 + u → m ≤ q
 to-even n u m q U even tie lo hi = le-of-suc-le-suc (lt-of-not-le below)

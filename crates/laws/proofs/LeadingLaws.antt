@@ -1,4 +1,4 @@
--- The leading zeros of a number v below 2 ^ w, and v moved up over them. Assumes nothing.
+-- The leading zeros of a number v below 2 ^ w, and v shifted left by them. Assumes nothing.
 use mathlib.Core.Path.{_≡_, sym, ap, _∙_}
 use Prim.Native.Nat.{ℕ, suc, _+_, _-_, _*_, _^_, _≤_, _<_}
 use native.Mathlib.Nat.{le-trans, le-of-eq, lt-of-lt-of-le, mul-le-mul-right, mul-lt-mul-of-pos-right}
@@ -10,9 +10,9 @@ module _ (w v : ℕ) (P : 0 < v) (W : v < 2 ^ w) where
   pub leading-lt : leadingZeros w v < w
   leading-lt = let e = leading-top w v P W .1 in omega arith
 
-  -- moved up until d are left
-  pub leading-lift : (u d : ℕ) → u + d ≡ leadingZeros w v → (2 ^ (w - d - 1) ≤ v * 2 ^ u) × (v * 2 ^ u < 2 ^ (w - d))
-  leading-lift u d h = let t = leading-top w v P W in (
+  -- shifted left until d are left
+  pub leading-shift : (u d : ℕ) → u + d ≡ leadingZeros w v → (2 ^ (w - d - 1) ≤ v * 2 ^ u) × (v * 2 ^ u < 2 ^ (w - d))
+  leading-shift u d h = let t = leading-top w v P W in (
     le-trans (le-of-eq (ap (λ (n : ℕ). 2 ^ n) (low (t .0) (t .1)) ∙ pow-add 2 (t .0) u)) (mul-le-mul-right (2 ^ u) (t .2)),
     lt-of-lt-of-le (mul-lt-mul-of-pos-right (t .3) (pow-pos u)) (le-of-eq (sym (ap (λ (n : ℕ). 2 ^ n) (high (t .0) (t .1)) ∙ pow-add 2 (suc (t .0)) u))),
   )

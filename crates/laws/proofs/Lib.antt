@@ -10,7 +10,7 @@ pub mod OperationLaws
 pub mod CompareLaws
 pub mod ClosestLaws
 pub mod CarryLaws
-pub mod Sticky
+pub mod ClosestSticky
 pub mod RoundingError
 pub mod ErrorLaws
 pub mod FiniteLaws
@@ -24,7 +24,7 @@ pub mod RoundNearest
 pub mod RoundDetermined
 pub mod WholeRootLaws
 pub mod Examples
-pub mod JamLaws
+pub mod StickyLaws
 pub mod LeadingLaws
 pub mod SumSigns
 pub mod GridErrorLaws

@@ -24,7 +24,7 @@ use Rattle.laws.proofs.KeptLaws.{kept-under, kept-over}
 use Rattle.laws.proofs.SizeLaws.{size-below}
 use Rattle.laws.proofs.GridLaws.{grid-of-size}
 
--- ---- `limit` is half a step, 2 ^ half f smallest values, before the overflow
+-- ---- `limit` is half a unit in the last place, 2 ^ half f smallest values, before the overflow
 abbrev half : Format → ℕ
 half f = emax f - prec f + low f
 

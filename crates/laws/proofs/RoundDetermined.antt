@@ -44,13 +44,13 @@ module _ (f : Format) (s : Bool) (a c : ℕ) (C : 0 < c) (r : Float) (m : Rounds
     unfolding n
     as-near = sym (round-off f s a c C u) ∙ sym level ∙ off-same f r s a c (m .sign)
 
-    -- so r is w steps, as `round`'s result is q
-    steps : (w : ℕ) × (sizeIn f r ≡ w * 2 ^ k)
+    -- so r is w units in the last place, as `round`'s result is q
+    ulps : (w : ℕ) × (sizeIn f r ≡ w * 2 ^ k)
     unfolding n k
-    steps = grid-level f a c C r (m .value) t as-near
+    ulps = grid-level f a c C r (m .value) t as-near
 
     w : ℕ
-    w = steps .0
+    w = ulps .0
 
     q-near : Within (q * (c * 2 ^ k) * 2) (n * 2) (c * 2 ^ k)
     unfolding q k
@@ -58,14 +58,14 @@ module _ (f : Format) (s : Bool) (a c : ℕ) (C : 0 < c) (r : Float) (m : Rounds
 
     w-near : Within (w * (c * 2 ^ k) * 2) (n * 2) (c * 2 ^ k)
     unfolding w q k n
-    w-near = near-of-best n (c * 2 ^ k) q w q-near (le-of-eq (sym (ap (λ (x : ℕ). distance x n) (swap q) ∙ as-near ∙ ap (λ (x : ℕ). distance (x * c) n) (steps .1) ∙ sym (ap (λ (x : ℕ). distance x n) (swap w)))))
+    w-near = near-of-best n (c * 2 ^ k) q w q-near (le-of-eq (sym (ap (λ (x : ℕ). distance x n) (swap q) ∙ as-near ∙ ap (λ (x : ℕ). distance (x * c) n) (ulps .1) ∙ sym (ap (λ (x : ℕ). distance x n) (swap w)))))
       where
         swap : (x : ℕ) → x * (c * 2 ^ k) ≡ x * 2 ^ k * c
         swap x = simp (mul-assoc, mul-comm)
 
     w-value : Value f r s (w * 2 ^ k)
     unfolding w
-    w-value = subst₂ (λ (b : Bool) (N : ℕ). Value f r b N) (m .sign) (steps .1) (value-of-size f r (m .value) t)
+    w-value = subst₂ (λ (b : Bool) (N : ℕ). Value f r b N) (m .sign) (ulps .1) (value-of-size f r (m .value) t)
 
     size-is : sizeIn f (round f s a c) ≡ q * 2 ^ k
     unfolding q k n
@@ -84,18 +84,18 @@ module _ (f : Format) (s : Bool) (a c : ℕ) (C : 0 < c) (r : Float) (m : Rounds
         cancel e = eq-of-mul-eq-mul-right (2 ^ k) (pow-pos k) q w e
 
         q-even : (q ≡ w → ⊥) → q % 2 ≡ 0
-        q-even d = grid-tie f a c C r (m .value) t true (λ b e. d (cancel (e ∙ steps .1))) as-near
+        q-even d = grid-tie f a c C r (m .value) t true (λ b e. d (cancel (e ∙ ulps .1))) as-near
 
         w-even : (q ≡ w → ⊥) → w % 2 ≡ 0
         w-even d =
             sym (last-bit f r s w k w-value (near-le (prec f) n c w C w-near) (near-few (prec f) n c w C w-near (two-le-pos (prec f) (two f))))
-            ∙ m .even t (round f s a c) (by-round .value) u level (λ e. d (cancel (sym size-is ∙ ap (sizeIn f) (sym e) ∙ steps .1)))
+            ∙ m .even t (round f s a c) (by-round .value) u level (λ e. d (cancel (sym size-is ∙ ap (sizeIn f) (sym e) ∙ ulps .1)))
 
     finite-same : r ≡ round f s a c
     unfolding w
     finite-same =
         size-unique f r (round f s a c) (m .value) (by-round .value) t u (m .sign ∙ sym (by-round .sign))
-        (steps .1 ∙ ap (λ (x : ℕ). x * 2 ^ k) (sym same-steps) ∙ sym size-is)
+        (ulps .1 ∙ ap (λ (x : ℕ). x * 2 ^ k) (sym same-steps) ∙ sym size-is)
 
   pub rounds-to-round : r ≡ round f s a c
   rounds-to-round = go (ltb a (limit f * c)) (ltb→lt a (limit f * c)) (nltb→le a (limit f * c))

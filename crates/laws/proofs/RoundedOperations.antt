@@ -55,13 +55,13 @@ pub div-near : (f : Format) (x y : Float) (s t : Bool) (a b j : ℕ) → 0 < b �
     → Sized f (div f x y) (unlike s t) b (a * unit f) (halfUlp f * 2 ^ (j - 1)) (2 ^ (low f + j))
 div-near f x y s t a b j B h k l J = record {
   size = rounded f (a * unit f) b;
-  has = rounded-value f (a * unit f) b j B lifted (div f x y) (unlike s t) J (div-at f x y s t a b h k B);
-  near = rounded-near f (a * unit f) b j B lifted;
-  most = rounded-most f (a * unit f) b j B lifted;
+  has = rounded-value f (a * unit f) b j B scaled (div f x y) (unlike s t) J (div-at f x y s t a b h k B);
+  near = rounded-near f (a * unit f) b j B scaled;
+  most = rounded-most f (a * unit f) b j B scaled;
 }
   where
-    lifted : a * unit f ≤ b * unit f * 2 ^ j
-    lifted = le-trans (mul-le-mul-right (unit f) l) (le-of-eq (mul-right-comm b (2 ^ j) (unit f)))
+    scaled : a * unit f ≤ b * unit f * 2 ^ j
+    scaled = le-trans (mul-le-mul-right (unit f) l) (le-of-eq (mul-right-comm b (2 ^ j) (unit f)))
 
 -- ---- sums
 once : (f : Format) (n j : ℕ) → n ≤ unit f * 2 ^ j → n ≤ 1 * unit f * 2 ^ j

@@ -49,14 +49,14 @@ pub value-unique : (f : Format) (x y : Float) (s : Bool) (N : ℕ) → T (fits f
 value-unique f x y s N p q h k =
     sym (ofBits-toBits f x p) ∙ ap (ofBits f) (toBits-value f x s N h ∙ sym (toBits-value f y s N k)) ∙ ofBits-toBits f y q
 
--- ---- a number's digits
+-- ---- how many bits a number has
 pub size-more : (n j : ℕ) → 2 ^ j ≤ n → j < size n
 size-more n j h = lt-of-not-le (λ (g : size n ≤ j). not-le-of-lt (lt-of-lt-of-le (size-lt n) (pow-mono g)) h)
 
 pub size-is : (n j : ℕ) → 2 ^ j ≤ n → n < 2 ^ suc j → size n ≡ suc j
 size-is n j h k = le-antisymm (size-le n (suc j) k) (size-more n j h)
 
--- ---- a significand q and a count k of dropped digits, packed
+-- ---- a significand q and its exponent k, packed
 first : (f : Format) → 2 ^ prec f ≡ hid f * 2
 first binary32 = refl
 first binary64 = refl
@@ -110,7 +110,7 @@ pattern-is f s q k h z = go (ltb q (hid f)) (ltb q (2 ^ prec f)) (ltb→lt q (hi
     go false true x x' y y' = pattern-mid f s q k (x' tt) (y tt)
     go false false x x' y y' = subst (λ (r : ℕ). pattern f s (r * 2 ^ k) ≡ cond s (top f) 0 + k * hid f + r) (le-antisymm (y' tt) h) (pattern-high f s k)
 
--- ---- and unpacked: the bits of a significand and a drop are the value that `round` makes of them
+-- ---- and unpacked: the bits of a significand and its exponent are the value that `round` makes of them
 units-is : (f : Format) (s : Bool) (q k : ℕ) → q * 2 ^ k < 2 ^ (low f + suc (emax f)) → units f s q k ≡ odd (suc (prec f)) s q k (low f)
 unfolding units
 units-is f s q k h = cond-yes (ltb (q * 2 ^ k) (2 ^ (low f + suc (emax f)))) (odd (suc (prec f)) s q k (low f)) (inf s) (lt→ltb (q * 2 ^ k) (2 ^ (low f + suc (emax f))) h)

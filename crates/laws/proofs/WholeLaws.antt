@@ -62,7 +62,7 @@ closest-up n p u U e =
     go w Ordering·eq = tie w p e
     go w Ordering·gt = after w p
 
--- ---- a number of prec bits before the point is rounded at the unit's place
+-- ---- of a number from 2 ^ (prec - 1) to 2 ^ prec the unit in the last place is 1
 powers : (f : Format) → hid f * 2 ^ low f ≡ 2 ^ (prec f - 1 + low f)
 powers f = sym (pow-add 2 (prec f - 1) (low f))
 
@@ -113,8 +113,8 @@ module _ (f : Format) (n : ℕ) (least : hid f * 2 ^ low f ≤ n) (most : n < 2 
       subst (λ (c : ℕ). Value f (round f false n c) false (closest n (2 ^ low f) * 2 ^ low f)) (sym (one-mul (2 ^ low f)))
       (subst (λ (g : ℕ). Value f (round f false n (2 ^ low f)) false g) grid-is (round-val f n (2 ^ low f) (subst (λ (g : ℕ). g < overflow f) (sym grid-is) under)))
 
--- ---- below 2 ^ (prec - 1), that power added and subtracted gives the nearest whole number, ties to even: the sum is rounded at the unit's place, the
--- difference is exact
+-- ---- below 2 ^ (prec - 1), that power added and subtracted gives the nearest whole number, ties to even: the sum's unit in the last
+-- place is 1, and the difference is exact
 pub near-whole : (f : Format) (x m : Float) (n : ℕ) → Value f x false n → Value f m false (hid f * 2 ^ low f) → n < hid f * 2 ^ low f
     → sub f (add f x m) m ≡ round f false (closest n (2 ^ low f)) 1
 near-whole f x m n v w h = whole-less f (add f x m) m (closest n (2 ^ low f) + hid f) (hid f) summed w (least (closest n (2 ^ low f)) (hid f)) ∙ ap (λ (i : ℕ). round f false i 1) (back (closest n (2 ^ low f)) (hid f))

@@ -1,4 +1,4 @@
--- The whole root: squares keep their order, and the definition's root, found a digit at a time, is the largest whose square fits.
+-- The whole root: squares keep their order, and the definition's root, found a bit at a time, is the largest whose square fits.
 -- Assumes nothing.
 use mathlib.Core.Path.{_≡_, refl}
 use mathlib.Core.Bool.{Bool, true, false, not, cond}
@@ -45,25 +45,25 @@ square-mono x y h = omega (arith, mul-le-mul (next h) (next h), next-square x)
 pub odd-square : (r : ℕ) → (2 * r + 1) * (2 * r + 1) ≡ 4 * (r * r) + 4 * r + 1
 odd-square r = ring (r ∷ []) ((lit 2 ⊗ var 0 ⊕ lit 1) ⊗ (lit 2 ⊗ var 0 ⊕ lit 1)) (lit 4 ⊗ (var 0 ⊗ var 0) ⊕ lit 4 ⊗ var 0 ⊕ lit 1) refl
 
--- ---- one more binary digit
+-- ---- one more bit of the root
 even-square : (r : ℕ) → 2 * r * (2 * r) ≡ 4 * (r * r)
 even-square r = ring (r ∷ []) (lit 2 ⊗ var 0 ⊗ (lit 2 ⊗ var 0)) (lit 4 ⊗ (var 0 ⊗ var 0)) refl
 
-pub digit-one : (n r : ℕ) → WholeRoot (n / 4) r → (2 * r + 1) * (2 * r + 1) ≤ n → WholeRoot n (2 * r + 1)
-digit-one n r w h = record { below = h; above = omega (arith, w .above, even-square (r + 1), twice r) }
+pub bit-one : (n r : ℕ) → WholeRoot (n / 4) r → (2 * r + 1) * (2 * r + 1) ≤ n → WholeRoot n (2 * r + 1)
+bit-one n r w h = record { below = h; above = omega (arith, w .above, even-square (r + 1), twice r) }
   where
     twice : (r : ℕ) → (2 * r + 1 + 1) * (2 * r + 1 + 1) ≡ 2 * (r + 1) * (2 * (r + 1))
     twice r = ring (r ∷ []) ((lit 2 ⊗ var 0 ⊕ lit 1 ⊕ lit 1) ⊗ (lit 2 ⊗ var 0 ⊕ lit 1 ⊕ lit 1)) (lit 2 ⊗ (var 0 ⊕ lit 1) ⊗ (lit 2 ⊗ (var 0 ⊕ lit 1))) refl
 
-pub digit-zero : (n r : ℕ) → WholeRoot (n / 4) r → n < (2 * r + 1) * (2 * r + 1) → WholeRoot n (2 * r)
-digit-zero n r w h = record { below = omega (arith, w .below, even-square r); above = h }
+pub bit-zero : (n r : ℕ) → WholeRoot (n / 4) r → n < (2 * r + 1) * (2 * r + 1) → WholeRoot n (2 * r)
+bit-zero n r w h = record { below = omega (arith, w .below, even-square r); above = h }
 
 grown-is : (n r : ℕ) → WholeRoot (n / 4) r → WholeRoot n (grown (2 * r) n)
 grown-is n r w = go (leb ((2 * r + 1) * (2 * r + 1)) n) (leb→le ((2 * r + 1) * (2 * r + 1)) n) (nleb→lt ((2 * r + 1) * (2 * r + 1)) n)
   where
     go : (b : Bool) → (T b → (2 * r + 1) * (2 * r + 1) ≤ n) → (T (not b) → n < (2 * r + 1) * (2 * r + 1)) → WholeRoot n (cond b (2 * r + 1) (2 * r))
-    go true x y = digit-one n r w (x tt)
-    go false x y = digit-zero n r w (y tt)
+    go true x y = bit-one n r w (x tt)
+    go false x y = bit-zero n r w (y tt)
 
 -- ---- the definition's whole root is one
 pub whole-root-is : (k n : ℕ) → n < 4 ^ k → WholeRoot n (wholeRoot k n)

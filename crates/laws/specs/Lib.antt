@@ -3,5 +3,5 @@ pub mod Within
 pub mod Exact
 pub mod Determines
 pub mod RoundsTo
-pub mod Jam
+pub mod Sticky
 pub mod WholeRoot

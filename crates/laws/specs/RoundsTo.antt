@@ -17,7 +17,7 @@ gap s a t b = cond (Bool·beq s t) (distance a b) (a + b)
 abbrev pub off : Format → Float → Bool → ℕ → ℕ → ℕ
 off f x s a c = gap (negative x) (sizeIn f x * c) s (a * 2 ^ low f)
 
--- Half a step past the largest value: 2 ^ 128 - 2 ^ 103 in binary32.
+-- Half a unit in the last place past the largest value: 2 ^ 128 - 2 ^ 103 in binary32.
 abbrev pub limit : Format → ℕ
 limit f = (2 ^ suc (prec f) - 1) * 2 ^ (emax f - prec f)
 
@@ -32,7 +32,7 @@ pub record RoundsTo (f : Format) (s : Bool) (a c : ℕ) (r : Float) : Type 0 whe
   pub beyond : limit f * c ≤ a → r ≡ inf s
   -- no finite value of the format is nearer
   pub nearest : T (finite r) → (y : Float) → T (fits f y) → T (finite y) → off f r s a c ≤ off f y s a c
-  -- and where another one is as near, the last digit of r is even
+  -- and where another one is as near, the last bit of r is 0
   pub even : T (finite r) → (y : Float) → T (fits f y) → T (finite y) → off f r s a c ≡ off f y s a c → (r ≡ y → ⊥) → toBits f r % 2 ≡ 0
 
 -- This leaves no choice: two results with the same meaning are equal.

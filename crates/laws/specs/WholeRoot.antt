@@ -12,7 +12,7 @@ pub record WholeRoot (n r : ℕ) : Type 0 where
 abbrev pub grown : ℕ → ℕ → ℕ
 grown r n = cond (leb ((r + 1) * (r + 1)) n) (r + 1) r
 
--- The whole root of an n below 4 ^ k, a digit at a time.
+-- The whole root of an n below 4 ^ k, a bit at a time.
 unfoldable pub wholeRoot : ℕ → ℕ → ℕ
 wholeRoot zero n = 0
 wholeRoot (suc k) n = let r = wholeRoot k (n / 4) in grown (2 * r) n

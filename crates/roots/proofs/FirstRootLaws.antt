@@ -48,7 +48,7 @@ rule table t j i h l =
     let n = eqb→eq (length table) 96 (and-l a b t) in
     entry (32 + j) i (getD table j []) (at rightRow table [] 32 (and-r a b t) j (lt-of-lt-of-le h (le-of-eq (sym n)))) l
 
--- ---- the rows by the first digits of k, and the definition
+-- ---- the rows by k / 8, and the definition
 row-below : (table : List (List ℕ)) (j : ℕ) → j < 32 → rowOf table j ≡ none
 unfolding rowOf
 row-below table j h = simp (lt-ltb j 32 h)

@@ -1,8 +1,8 @@
--- Bytes in a word, the first in the lowest digits: a shift brings each to the front. Assumes nothing.
+-- Bytes in a word, the first in the lowest bits: a right shift brings each there. Assumes nothing.
 use mathlib.Core.List.{List, [], _∷_}
 use mathlib.Core.Path.{_≡_, refl, _∙_, sym, ap}
 use Prim.Native.Nat.{ℕ, zero, suc, _+_, _*_, _/_, _%_, _^_, _<_}
-use native.Mathlib.Nat.{zero-div, div-div-eq-div-mul, mul-comm}
+use native.Mathlib.Nat.{zero-div, div-div-eq-div-mul}
 use native.Mathlib.Omega.{arith}
 use lib.ListN.{getD}
 use lib.Pow.{pow-add}

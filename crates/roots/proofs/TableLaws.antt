@@ -1,6 +1,6 @@
 -- A rule of a table, proved at all of its entries by one test that antt computes, one entry after the other.
 -- Assumes nothing.
-use mathlib.Core.Path.{_≡_, _∙_, subst, sym}
+use mathlib.Core.Path.{_∙_, subst, sym}
 use mathlib.Core.Bool.{Bool, true, _&&_}
 use mathlib.Core.List.{List, [], _∷_}
 use Prim.Native.Nat.{ℕ, zero, suc, _+_, _<_}
@@ -10,7 +10,7 @@ use lib.ListN.{length, getD}
 use lib.Ieee.Fits.{and-l, and-r}
 
 module _ {A : Type 0} (f : ℕ → A → Bool) where
-  -- the test f passes at each entry of the list and its place, counted from i
+  -- the test f passes at each entry of the list and its index, counted from i
   abbrev pub every : ℕ → List A → Bool
   every i [] = true
   every i (x ∷ xs) = f i x && every (suc i) xs

@@ -13,7 +13,7 @@ none = 0 ∷ 0 ∷ 0 ∷ 0 ∷ 0 ∷ 0 ∷ 0 ∷ 0 ∷ []
 unfoldable pub rowOf : List (List ℕ) → ℕ → List ℕ
 rowOf table j = cond (ltb j 32) none (cond (ltb j 128) (getD table (j - 32) []) none)
 
--- bytes in a word, the first in the lowest digits
+-- bytes in a word, the first in the lowest bits
 abbrev pub inWord : List ℕ → ℕ
 inWord [] = 0
 inWord (b ∷ bs) = inWord bs * 256 + b

@@ -1,4 +1,4 @@
--- The fields of a float's bit pattern, and the significand and digits that they give. Assumes nothing.
+-- The fields of a float's bit pattern, and the significand and the exponent that they give. Assumes nothing.
 use mathlib.Core.Path.{_≡_, refl, sym, ap, ap₂, _∙_, subst}
 use mathlib.Core.Bool.{Bool, true, false, not, cond}
 use Prim.Native.Nat.{ℕ, zero, suc, _+_, _-_, _*_, _/_, _%_, _^_, _≤_, _<_}
@@ -9,7 +9,6 @@ use lib.Ieee.{Float, nan, inf, fin, binary32, Format, prec, low, emax, odd, unit
 use lib.Arith.{lt→nleb}
 use lib.Ieee.Bits.{ofBits-toBits, is-false}
 use lib.Ieee.Scale.{finite}
-use lib.Ieee.Fits.{core, round-is}
 use Rattle.laws.proofs.FiniteLaws.{finite-number}
 use Rattle.scalar.specs.Parts.{Split}
 
@@ -54,10 +53,10 @@ at-mid x s (suc e) t h z n = h ∙ at-suc s e t n ∙ ap (λ (k : ℕ). odd 24 s
     one-less e = omega arith
 
 pub split-0 : (b : ℕ) → Split (b % 8388608) 0
-split-0 b = record { digits = omega arith; range = omega arith; least = λ h. refl }
+split-0 b = record { bits = omega arith; range = omega arith; least = λ h. refl }
 
 pub split-mid : (b : ℕ) → (b % 2147483648 / 8388608 ≡ 255 → ⊥) → Split (b % 8388608 + 8388608) (b % 2147483648 / 8388608 - 1)
-split-mid b n = record { digits = omega arith; range = omega arith; least = λ h. absurd (not-below b h) }
+split-mid b n = record { bits = omega arith; range = omega arith; least = λ h. absurd (not-below b h) }
   where
     not-below : (b : ℕ) → b % 8388608 + 8388608 < 8388608 → ⊥
     not-below b h = omega arith
@@ -80,7 +79,7 @@ pub round-neg : (f : Format) (s : Bool) (a c : ℕ) → neg (round f s a c) ≡ 
 unfolding round
 round-neg f s a c = units-neg f s _ _
 
--- ---- each finite value is a significand and its digits
+-- ---- each finite value is a significand and its exponent
 pub record PartsOf (x : Float) : Type 0 where
   pub s : Bool
   pub q : ℕ
@@ -112,14 +111,14 @@ parts-of x h f = go (eqb e 0) (eqb e 255) (eqb→eq e 0) (differ e 0) (eqb→eq 
     go false true p p' q q' = absurd (subst (λ (y : Float). T (finite y)) (at-255 x s e (b % 8388608) (fields x h) (q tt) (finite-number x f)) f)
     go false false p p' q q' = record { s = s; q = b % 8388608 + 8388608; k = e - 1; is = at-mid x s e (b % 8388608) (fields x h) (p' tt) (q' tt); split = split-mid b (q' tt) }
 
--- ---- a positive value of 24 digits, by its bits
+-- ---- a positive normal value, by its bits
 pub record Normal (x : Float) (b : ℕ) : Type 0 where
   pub is : x ≡ odd 24 false (b % 8388608 + 8388608) (b / 8388608 - 1) 149
-  pub digits : b % 8388608 + 8388608 < 2 ^ 24
+  pub bits : b % 8388608 + 8388608 < 2 ^ 24
   pub range : b / 8388608 - 1 < 254
 
 pub normal : (x : Float) → T (fits binary32 x) → 8388608 ≤ toBits binary32 x → toBits binary32 x < 2139095040 → Normal x (toBits binary32 x)
-normal x h l u = record { is = whole (toBits binary32 x) l u (fields x h); digits = omega arith; range = omega arith }
+normal x h l u = record { is = whole (toBits binary32 x) l u (fields x h); bits = omega arith; range = omega arith }
   where
     positive : (b : ℕ) → b < 2139095040 → leb 2147483648 b ≡ false
     positive b u = is-false (leb 2147483648 b) (lt→nleb 2147483648 b (omega arith))

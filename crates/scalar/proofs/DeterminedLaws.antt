@@ -41,7 +41,7 @@ root-determines x r t m l = size-unique binary32 r t (m .value) (l .value) (m .n
     go Ordering·eq h = h
     go Ordering·gt h = absurd (both-sides k n (4 * radicand x) (l .upper r (m .value) h) (m .lower t (l .value) h))
 
--- ---- the fused product: the exact sum is zero, or has a sign and a size that are rounded
+-- ---- the fused multiply-add: the exact sum is zero, or has a sign and a size that are rounded
 fused-determines : (a b c : Float) → Determines (RoundedOnce a b c)
 fused-determines a b c r t m l =
     elim (zero-or-signed (exactSum a b c)) [

@@ -1,4 +1,4 @@
--- The fused product, from floats to whole numbers: its factors and its term taken apart, and the arguments that are no numbers. Assumes nothing.
+-- The fused multiply-add, from floats to whole numbers: its factors and its term taken apart, and the arguments that are no numbers. Assumes nothing.
 use mathlib.Core.Path.{_≡_, refl, sym, ap, ap₂, _∙_, subst}
 use mathlib.Core.Bool.{Bool, true, false, not}
 use mathlib.Core.Logic.{_⊎_, inl, inr}
@@ -16,7 +16,7 @@ use lib.Ieee.Fits.{down-pos}
 use lib.Ieee.Scale.{round-same}
 use Rattle.laws.proofs.Ring.{var, lit, _⊗_}
 use Rattle.laws.proofs.RingNat.{ring}
-use Rattle.laws.proofs.LeadingLaws.{leading-lift}
+use Rattle.laws.proofs.LeadingLaws.{leading-shift}
 use Rattle.laws.proofs.SumSame.{sum-same}
 use Rattle.scalar.specs.Fused.{fusedMultiplyAdd}
 use Rattle.scalar.specs.Parts.{Split, Decoded}
@@ -42,7 +42,7 @@ module _ (x : Float) (s : Bool) (q k : ℕ) (X : x ≡ odd 24 s q k 149) (K : Sp
     value = value-of-parts x s q k X;
     same = ap (λ (n : ℕ). q * n) (pow-add 2 k 23) ∙ sym (mul-assoc q (2 ^ k) (2 ^ 23));
     low = h;
-    high = K .digits;
+    high = K .bits;
     range = let r = K .range in omega arith;
   }
 
@@ -54,16 +54,16 @@ module _ (x : Float) (s : Bool) (q k : ℕ) (X : x ≡ odd 24 s q k 149) (K : Sp
     word = omega arith
 
     pub zeros-left : (8 ≤ leadingZeros 32 q) × (leadingZeros 32 q - 8 ≤ 23)
-    zeros-left = let z = zeros-in q some (K .digits) in omega arith
+    zeros-left = let z = zeros-in q some (K .bits) in omega arith
 
     pub factor-short : Normal x s (q * 2 ^ (leadingZeros 32 q - 8) % 4294967296) (23 - (leadingZeros 32 q - 8))
     factor-short =
-        let b = leading-lift 32 q some word (leadingZeros 32 q - 8) 8 (let z = zeros-left in omega arith) in
+        let b = leading-shift 32 q some word (leadingZeros 32 q - 8) 8 (let z = zeros-left in omega arith) in
         subst (λ (n : ℕ). Normal x s n (23 - (leadingZeros 32 q - 8))) (sym (mod-eq-of-lt (lt-of-lt-of-le (b .1) (lit≤ tt))))
         (record {
           size = q * 2 ^ k;
           value = value-of-parts x s q k X;
-          same = moved (leadingZeros 32 q - 8) (zeros-left .1);
+          same = shifted (leadingZeros 32 q - 8) (zeros-left .1);
           low = b .0;
           high = b .1;
           range = omega arith;
@@ -72,8 +72,8 @@ module _ (x : Float) (s : Bool) (q k : ℕ) (X : x ≡ odd 24 s q k 149) (K : Sp
         back : (z : ℕ) → z ≤ 23 → z + (23 - z) ≡ 23
         back z l = omega arith
 
-        moved : (z : ℕ) → z ≤ 23 → q * 2 ^ z * 2 ^ (23 - z) ≡ q * 2 ^ k * 2 ^ 23
-        moved z l =
+        shifted : (z : ℕ) → z ≤ 23 → q * 2 ^ z * 2 ^ (23 - z) ≡ q * 2 ^ k * 2 ^ 23
+        shifted z l =
             mul-assoc q (2 ^ z) (2 ^ (23 - z))
             ∙ ap (λ (n : ℕ). q * n) (sym (pow-add 2 z (23 - z)) ∙ ap (λ (n : ℕ). 2 ^ n) (back z l))
             ∙ ap (λ (n : ℕ). n * 2 ^ 23) (sym (ap (λ (n : ℕ). q * 2 ^ n) (K .least h) ∙ mul-one q))
@@ -96,7 +96,7 @@ module _ (x y z : Float) (s t u : Bool) (m k n d q g : ℕ) (M : Normal x s m k)
   p-word = let b = p-in in mod-eq-of-lt (omega arith)
 
   q-word : q * 274877906944 % 18446744073709551616 ≡ q * 274877906944
-  q-word = let b = K .1 .digits in mod-eq-of-lt (omega arith)
+  q-word = let b = K .1 .bits in mod-eq-of-lt (omega arith)
 
   pub terms : Terms (m * n * 16384 % 18446744073709551616) (k + d + 68) (q * 274877906944 % 18446744073709551616) (g + 239)
   terms = rw (p-word, q-word) (record {
@@ -104,7 +104,7 @@ module _ (x y z : Float) (s t u : Bool) (m k n d q g : ℕ) (M : Normal x s m k)
     x-high = omega (arith, p-in .1);
     x-zeros = omega arith;
     y-low = go (leb 8388608 q) (leb→le 8388608 q) (nleb→lt 8388608 q);
-    y-high = omega (arith, K .1 .digits);
+    y-high = omega (arith, K .1 .bits);
     y-zeros = omega arith;
   })
     where

@@ -1,14 +1,14 @@
--- The fused product is what specs/FusedMeaning says. Assumes nothing.
+-- The fused multiply-add is what specs/FusedMeaning says. Assumes nothing.
 use mathlib.Core.Path.{_≡_, refl, sym, ap, ap₂, _∙_, subst}
 use mathlib.Core.Bool.{Bool, true, false, _&&_}
 use mathlib.Core.List.{[], _∷_}
-use Prim.Native.Nat.{ℕ, _*_, _^_, _<_}
+use Prim.Native.Nat.{ℕ, _*_, _^_}
 use lib.Dec.{T}
 use lib.IntN.{pos, _+ℤ_}
 use lib.Pow.{pow-pos}
 use lib.Ieee.{Float, fin, binary32, unlike, round, sum, fits}
 use lib.Ieee.Scale.{finite}
-use Rattle.laws.specs.Exact.{negative, sizeIn, signed, exact}
+use Rattle.laws.specs.Exact.{negative, sizeIn, signed}
 use Rattle.laws.specs.RoundsTo.{RoundsTo}
 use Rattle.laws.proofs.Ring.{var, lit, _⊗_}
 use Rattle.laws.proofs.RingNat.{ring}

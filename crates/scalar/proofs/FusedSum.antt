@@ -1,5 +1,5 @@
--- The fused product of finite values, as a sum of whole numbers of 2 ^ -426. Assumes nothing.
-use mathlib.Core.Path.{_≡_, refl, sym, ap, ap₂, _∙_}
+-- The fused multiply-add of finite values, as a sum of whole numbers of 2 ^ -426. Assumes nothing.
+use mathlib.Core.Path.{_≡_, refl, ap, ap₂, _∙_}
 use mathlib.Core.Bool.{Bool}
 use mathlib.Core.List.{[], _∷_}
 use Prim.Native.Nat.{ℕ, _*_, _^_}

@@ -18,14 +18,14 @@ use Rattle.laws.proofs.BoolLaws.{pos-of-not-zero}
 use Rattle.laws.proofs.ClosestLaws.{closest-best, closest-tie}
 use Rattle.laws.proofs.SizeLaws.{size-of-value, value-of-size}
 use Rattle.laws.proofs.ValueLaws.{value-finite, value-same}
-use Rattle.scalar.specs.Integral.{integral, cut, lower, even, trunc, floor, roundEven}
+use Rattle.scalar.specs.Integral.{integral, towardZero, towardNegative, tiesToEven, trunc, floor, roundEven}
 use Rattle.scalar.specs.IntegralMeaning.{Whole, Truncated, Floored, RoundedEven}
 use Rattle.scalar.specs.Parts.{Split}
 use Rattle.scalar.proofs.BitsLaws.{PartsOf, parts-of}
 use Rattle.scalar.proofs.PartsLaws.{value-of-parts}
 use Rattle.scalar.proofs.FitsLaws.{integral-fits}
 use Rattle.scalar.proofs.IntegralLaws.{Rule, integral-at, whole-stays}
-use Rattle.scalar.proofs.IntegralRules.{cut-rule, lower-rule, even-rule}
+use Rattle.scalar.proofs.IntegralRules.{toward-zero-rule, toward-negative-rule, ties-to-even-rule}
 
 -- a rule goes at most one above the quotient
 abbrev Near : (Bool → ℕ → ℕ → ℕ) → Type 0
@@ -54,9 +54,9 @@ module _ (by : Bool → ℕ → ℕ → ℕ) (rule : Rule by) (near : Near by) (
       upto k h = omega arith
 
       below : n < 8388608 * 2 ^ 149
-      below = lt-of-le-of-lt (le-of-eq e) (lt-of-lt-of-le (mul-lt-mul-of-pos-right (S .digits) (pow-pos k)) (le-trans (le-of-eq (sym (pow-add 2 24 k))) (pow-mono (upto k h))))
+      below = lt-of-le-of-lt (le-of-eq e) (lt-of-lt-of-le (mul-lt-mul-of-pos-right (S .bits) (pow-pos k)) (le-trans (le-of-eq (sym (pow-add 2 24 k))) (pow-mono (upto k h))))
 
-  -- x has no digit below 1: it stays, and so does its size
+  -- x has no bit below 1: it stays, and so does its size
   whole-value : (s : Bool) (q k : ℕ) → x ≡ odd 24 s q k 149 → Split q k → n ≡ q * 2 ^ k → 149 ≤ k → HasValue (integral by x) (negative x) (w * 2 ^ 149) (2 ^ 149)
   unfolding w
   whole-value s q k e S z h =
@@ -112,19 +112,19 @@ downward a u U = (div-mul-le-self a u, subst (λ (m : ℕ). a < m) (sym (next (a
 pub trunc-means : (x : Float) → T (fits binary32 x) → T (finite x) → Truncated x (trunc x)
 trunc-means x fx tx =
     let d = downward (sizeIn binary32 x) (2 ^ 149) (pow-pos 149) in
-    record { w = sizeIn binary32 x / 2 ^ 149; whole = integral-whole cut cut-rule (λ s a b. le-add-right (a / b) 1) x fx tx; below = d .0; above = d .1 }
+    record { w = sizeIn binary32 x / 2 ^ 149; whole = integral-whole towardZero toward-zero-rule (λ s a b. le-add-right (a / b) 1) x fx tx; below = d .0; above = d .1 }
 
--- ---- downward
-lower-near : (s : Bool) (a b : ℕ) → lower s a b ≤ a / b + 1
-lower-near false a b = le-add-right (a / b) 1
-lower-near true a b = go (eqb (a % b) 0)
+-- ---- toward negative
+toward-negative-near : (s : Bool) (a b : ℕ) → towardNegative s a b ≤ a / b + 1
+toward-negative-near false a b = le-add-right (a / b) 1
+toward-negative-near true a b = go (eqb (a % b) 0)
   where
     go : (t : Bool) → a / b + cond t 0 1 ≤ a / b + 1
     go true = omega arith
     go false = le-refl (a / b + 1)
 
 -- the next multiple of u at or above a
-upward : (a u : ℕ) → 0 < u → (a ≤ lower true a u * u) × (lower true a u * u < a + u)
+upward : (a u : ℕ) → 0 < u → (a ≤ towardNegative true a u * u) × (towardNegative true a u * u < a + u)
 upward a u U = go (a / u) (a % u) (eqb (a % u) 0) (eqb→eq (a % u) 0) (pos-of-not-zero (a % u)) (div-add-mod' a u) (mod-lt a U)
   where
     go : (w r : ℕ) (t : Bool) → (T t → r ≡ 0) → (T (not t) → 0 < r) → w * u + r ≡ a → r < u → (a ≤ (w + cond t 0 1) * u) × ((w + cond t 0 1) * u < a + u)
@@ -134,25 +134,25 @@ upward a u U = go (a / u) (a % u) (eqb (a % u) 0) (eqb→eq (a % u) 0) (pos-of-n
 pub floor-means : (x : Float) → T (fits binary32 x) → T (finite x) → Floored x (floor x)
 floor-means x fx tx =
     record {
-      w = lower (negative x) n (2 ^ 149);
-      whole = integral-whole lower lower-rule lower-near x fx tx;
-      positive = λ h. subst (λ (s : Bool). (lower s n (2 ^ 149) * 2 ^ 149 ≤ n) × (n < (lower s n (2 ^ 149) + 1) * 2 ^ 149)) (sym h) (downward n (2 ^ 149) (pow-pos 149));
-      minus = λ h. subst (λ (s : Bool). (n ≤ lower s n (2 ^ 149) * 2 ^ 149) × (lower s n (2 ^ 149) * 2 ^ 149 < n + 2 ^ 149)) (sym h) (upward n (2 ^ 149) (pow-pos 149));
+      w = towardNegative (negative x) n (2 ^ 149);
+      whole = integral-whole towardNegative toward-negative-rule toward-negative-near x fx tx;
+      positive = λ h. subst (λ (s : Bool). (towardNegative s n (2 ^ 149) * 2 ^ 149 ≤ n) × (n < (towardNegative s n (2 ^ 149) + 1) * 2 ^ 149)) (sym h) (downward n (2 ^ 149) (pow-pos 149));
+      minus = λ h. subst (λ (s : Bool). (n ≤ towardNegative s n (2 ^ 149) * 2 ^ 149) × (towardNegative s n (2 ^ 149) * 2 ^ 149 < n + 2 ^ 149)) (sym h) (upward n (2 ^ 149) (pow-pos 149));
     }
   where
     n : ℕ
     n = sizeIn binary32 x
 
--- ---- to the nearest
-even-near : (s : Bool) (a b : ℕ) → even s a b ≤ a / b + 1
-even-near s a b = le-trans (nearest-le (a / b) (compare (a % b * 2) b)) (le-of-eq (sym (add-one (a / b))))
+-- ---- ties to even
+ties-to-even-near : (s : Bool) (a b : ℕ) → tiesToEven s a b ≤ a / b + 1
+ties-to-even-near s a b = le-trans (nearest-le (a / b) (compare (a % b * 2) b)) (le-of-eq (sym (add-one (a / b))))
 
 pub round-means : (x : Float) → T (fits binary32 x) → T (finite x) → RoundedEven x (roundEven x)
 round-means x fx tx =
     let n = sizeIn binary32 x in
     record {
       w = closest n (2 ^ 149);
-      whole = integral-whole even even-rule even-near x fx tx;
+      whole = integral-whole tiesToEven ties-to-even-rule ties-to-even-near x fx tx;
       nearest = λ v. closest-best n (2 ^ 149) v (pow-pos 149);
       even = λ v d e. closest-tie n (2 ^ 149) v (pow-pos 149) d e;
     }

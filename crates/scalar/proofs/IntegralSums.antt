@@ -19,13 +19,13 @@ use Rattle.laws.proofs.OperationLaws.{neg-value}
 use Rattle.laws.proofs.SizeLaws.{value-of-size, size-of-value}
 use Rattle.laws.proofs.ValueLaws.{Value, value-finite}
 use Rattle.laws.proofs.ValueOrderLaws.{lt-is}
-use Rattle.scalar.specs.Integral.{integral, lower, even}
+use Rattle.scalar.specs.Integral.{integral, towardNegative, tiesToEven}
 use Rattle.scalar.specs.Sign.{abs, copysign, one}
 use Rattle.scalar.proofs.BitsLaws.{PartsOf, parts-of, round-neg}
 use Rattle.scalar.proofs.PartsLaws.{value-of-parts}
 use Rattle.scalar.proofs.SignLaws.{abs-pos, abs-value, copy}
 use Rattle.scalar.proofs.IntegralLaws.{Rule, integral-at, other-stays, whole-stays}
-use Rattle.scalar.proofs.IntegralRules.{lower-rule, even-rule}
+use Rattle.scalar.proofs.IntegralRules.{toward-negative-rule, ties-to-even-rule}
 use Rattle.laws.proofs.WholeLaws.{whole-value, whole-more, whole-less, near-whole}
 
 -- ---- the nearest whole number against the fraction
@@ -49,14 +49,14 @@ module _ (n d : ℕ) (D : 0 < d) where
   parts-over : closest n d * d ≤ n / d * d → n < closest n d * d → ⊥
   parts-over h l = let s = div-add-mod' n d in omega arith
 
-  pub cut-next : n < closest n d * d → closest n d ≡ n / d + 1
-  cut-next h = next (λ (l : closest n d ≤ n / d). parts-over (mul-le-mul-right d l) h)
+  pub trunc-next : n < closest n d * d → closest n d ≡ n / d + 1
+  trunc-next h = next (λ (l : closest n d ≤ n / d). parts-over (mul-le-mul-right d l) h)
 
-  pub cut-same : closest n d * d ≤ n → n / d ≡ closest n d
-  cut-same h = sym (above h)
+  pub trunc-same : closest n d * d ≤ n → n / d ≡ closest n d
+  trunc-same h = sym (above h)
 
-  pub lower-next : closest n d * d < n → closest n d + 1 ≡ lower true n d
-  lower-next h = ap (λ (w : ℕ). w + 1) e ∙ ap (λ (t : Bool). n / d + cond t 0 1) (sym (not-zero (n % d) (some (ap (λ (w : ℕ). w * d) e))))
+  pub toward-negative-next : closest n d * d < n → closest n d + 1 ≡ towardNegative true n d
+  toward-negative-next h = ap (λ (w : ℕ). w + 1) e ∙ ap (λ (t : Bool). n / d + cond t 0 1) (sym (not-zero (n % d) (some (ap (λ (w : ℕ). w * d) e))))
     where
       e : closest n d ≡ n / d
       e = above (le-of-lt h)
@@ -64,8 +64,8 @@ module _ (n d : ℕ) (D : 0 < d) where
       some : closest n d * d ≡ n / d * d → 0 < n % d
       some g = let s = div-add-mod' n d in omega arith
 
-  pub lower-same : n ≤ closest n d * d → closest n d ≡ lower true n d
-  lower-same h = go (eqb (n % d) 0) (eqb→eq (n % d) 0) (pos-of-not-zero (n % d))
+  pub toward-negative-same : n ≤ closest n d * d → closest n d ≡ towardNegative true n d
+  toward-negative-same h = go (eqb (n % d) 0) (eqb→eq (n % d) 0) (pos-of-not-zero (n % d))
     where
       exact : n % d ≡ 0 → n ≡ n / d * d
       exact e = let s = div-add-mod' n d in omega arith
@@ -74,7 +74,7 @@ module _ (n d : ℕ) (D : 0 < d) where
       short r l = let s = div-add-mod' n d in omega arith
 
       go : (t : Bool) → (T t → n % d ≡ 0) → (T (not t) → 0 < n % d) → closest n d ≡ n / d + cond t 0 1
-      go true f g = ap (λ (m : ℕ). closest m d) (exact (f tt)) ∙ even-rule .keeps false (n / d) d D ∙ sym (add-zero (n / d))
+      go true f g = ap (λ (m : ℕ). closest m d) (exact (f tt)) ∙ ties-to-even-rule .keeps false (n / d) d D ∙ sym (add-zero (n / d))
       go false f g = next (λ (l : closest n d ≤ n / d). short (g tt) (mul-le-mul-right d l))
 
 -- ---- the constants
@@ -150,17 +150,17 @@ module _ (x a : Float) (fx : T (fits binary32 x)) (e : a ≡ abs x) (small : lt 
   nearest-number =
       subst (λ (y : Float). T (not (isNan y))) (sym nearest-is) (finite-number (round binary32 false w 1) (value-finite (round binary32 false w 1) false (w * 2 ^ 149) (2 ^ 149) (w-value false)))
 
-  pub round-sum : copysign (sub binary32 (add binary32 a whole) whole) x ≡ integral even x
+  pub round-sum : copysign (sub binary32 (add binary32 a whole) whole) x ≡ integral tiesToEven x
   unfolding n w
-  round-sum = signed-is ∙ sym (found even even-rule)
+  round-sum = signed-is ∙ sym (found tiesToEven ties-to-even-rule)
 
   -- ---- downward: one less where the nearest is above x, for either sign
 
   less-one : n < w * 2 ^ 149 → sub binary32 (round binary32 false w 1) one ≡ round binary32 false (n / 2 ^ 149) 1
   unfolding n w
   less-one h =
-      whole-less binary32 (round binary32 false w 1) one w 1 (w-value false) one-is (some w (n / 2 ^ 149) (cut-next n (2 ^ 149) (pow-pos 149) h))
-      ∙ ap (λ (i : ℕ). round binary32 false i 1) (before w (n / 2 ^ 149) (cut-next n (2 ^ 149) (pow-pos 149) h))
+      whole-less binary32 (round binary32 false w 1) one w 1 (w-value false) one-is (some w (n / 2 ^ 149) (trunc-next n (2 ^ 149) (pow-pos 149) h))
+      ∙ ap (λ (i : ℕ). round binary32 false i 1) (before w (n / 2 ^ 149) (trunc-next n (2 ^ 149) (pow-pos 149) h))
     where
       some : (w q : ℕ) → w ≡ q + 1 → 1 ≤ w
       some w q e = omega arith
@@ -170,7 +170,7 @@ module _ (x a : Float) (fx : T (fits binary32 x)) (e : a ≡ abs x) (small : lt 
 
   not-past : ltb n (w * 2 ^ 149) ≡ false → n / 2 ^ 149 ≡ w
   unfolding n w
-  not-past h = cut-same n (2 ^ 149) (pow-pos 149) (nltb→le n (w * 2 ^ 149) (subst (λ (t : Bool). T (not t)) (sym h) tt))
+  not-past h = trunc-same n (2 ^ 149) (pow-pos 149) (nltb→le n (w * 2 ^ 149) (subst (λ (t : Bool). T (not t)) (sym h) tt))
 
   less-step : (t : Bool) → ltb n (w * 2 ^ 149) ≡ t → cond t (sub binary32 (round binary32 false w 1) one) (round binary32 false w 1) ≡ round binary32 false (n / 2 ^ 149) 1
   less-step true h = less-one (ltb→lt n (w * 2 ^ 149) (subst T (sym h) tt))
@@ -180,18 +180,18 @@ module _ (x a : Float) (fx : T (fits binary32 x)) (e : a ≡ abs x) (small : lt 
   unfolding sub
   less-negative = whole-more binary32 (round binary32 true w 1) (neg one) true w 1 (w-value true) (neg-value binary32 one false (1 * 2 ^ 149) one-is)
 
-  floor-step : (s t : Bool) → below s n s (w * 2 ^ 149) ≡ t → cond t (sub binary32 (round binary32 s w 1) one) (round binary32 s w 1) ≡ round binary32 s (lower s n (2 ^ 149)) 1
+  floor-step : (s t : Bool) → below s n s (w * 2 ^ 149) ≡ t → cond t (sub binary32 (round binary32 s w 1) one) (round binary32 s w 1) ≡ round binary32 s (towardNegative s n (2 ^ 149)) 1
   unfolding n w
   floor-step false t h = less-step t h
-  floor-step true true h = less-negative ∙ ap (λ (i : ℕ). round binary32 true i 1) (lower-next n (2 ^ 149) (pow-pos 149) (ltb→lt (w * 2 ^ 149) n (subst T (sym h) tt)))
-  floor-step true false h = ap (λ (i : ℕ). round binary32 true i 1) (lower-same n (2 ^ 149) (pow-pos 149) (nltb→le (w * 2 ^ 149) n (subst (λ (t : Bool). T (not t)) (sym h) tt)))
+  floor-step true true h = less-negative ∙ ap (λ (i : ℕ). round binary32 true i 1) (toward-negative-next n (2 ^ 149) (pow-pos 149) (ltb→lt (w * 2 ^ 149) n (subst T (sym h) tt)))
+  floor-step true false h = ap (λ (i : ℕ). round binary32 true i 1) (toward-negative-same n (2 ^ 149) (pow-pos 149) (nltb→le (w * 2 ^ 149) n (subst (λ (t : Bool). T (not t)) (sym h) tt)))
 
-  pub floor-near : (v : Float) → v ≡ integral even x → cond (lt x v) (sub binary32 v one) v ≡ integral lower x
+  pub floor-near : (v : Float) → v ≡ integral tiesToEven x → cond (lt x v) (sub binary32 v one) v ≡ integral towardNegative x
   unfolding n w
-  floor-near v v-is = ap (λ (y : Float). cond (lt x v) (sub binary32 y one) y) v-whole ∙ floor-step (negative x) (lt x v) (sym beyond) ∙ sym (found lower lower-rule)
+  floor-near v v-is = ap (λ (y : Float). cond (lt x v) (sub binary32 y one) y) v-whole ∙ floor-step (negative x) (lt x v) (sym beyond) ∙ sym (found towardNegative toward-negative-rule)
     where
       v-whole : v ≡ round binary32 (negative x) w 1
-      v-whole = v-is ∙ found even even-rule
+      v-whole = v-is ∙ found tiesToEven ties-to-even-rule
 
       beyond : lt x v ≡ below (negative x) n (negative x) (w * 2 ^ 149)
       beyond = ap (lt x) v-whole ∙ lt-is x (round binary32 (negative x) w 1) (negative x) (negative x) n (w * 2 ^ 149) (2 ^ 149) (pow-pos 149) x-is (w-value (negative x))
@@ -215,7 +215,7 @@ finite-stays by rule x fx t h = whole-stays by rule x (p .s) (p .q) (p .k) (p .i
     upto k h = omega arith
 
     below : p .k ≤ 148 → ⊥
-    below g = not-le-of-lt (lt-of-lt-of-le (shl-lt 24 (p .k) (p .split .digits)) (pow-mono (upto (p .k) g))) large
+    below g = not-le-of-lt (lt-of-lt-of-le (shl-lt 24 (p .k) (p .split .bits)) (pow-mono (upto (p .k) g))) large
 
 pub large-stays : (by : Bool → ℕ → ℕ → ℕ) → Rule by → (x a : Float) → T (fits binary32 x) → a ≡ abs x → lt a whole ≡ false → x ≡ integral by x
 unfolding integral

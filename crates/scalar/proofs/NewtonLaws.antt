@@ -42,7 +42,7 @@ over-step n r d c q y h k l m = le-of-lt-next y (r + (c + 1)) (lt-of-not-le (λ 
         (by (lit 1) (var 4 ⊗ (var 1 ⊕ var 2)) (var 0) k
         (by (lit 1) (var 2 ⊗ var 2 ⊕ lit 1) (lit 2 ⊗ (var 1 ⊕ var 2) ⊗ (var 3 ⊕ lit 1)) past done))) tt
 
--- ---- how large a number near the root of 47 or 48 digits is
+-- ---- how large a number near the root of a radicand of 47 or 48 bits is
 pub above-most : (n c x : ℕ) → n < 2 ^ 48 → AboveRoot n c x → x < 2 ^ 24 + c
 above-most n c x h a = let l = root-lt n (a .root) 16777216 (a .is) h in omega (arith, a .most)
 
@@ -71,7 +71,7 @@ step n c d x h k a = record {
 pub second-step : (n x y : ℕ) → 2 ^ 46 ≤ n → AboveRoot n 399 x → y ≡ (x + n / x) / 2 → AboveRoot n 1 y
 second-step n x y h a e = let l = above-least n 399 x h a in subst (AboveRoot n 1) (sym e) (step n 399 0 x (omega arith) (omega arith) a)
 
--- ---- the first number, from the table's root r of 64 * k, k being the first ten digits of n
+-- ---- the first number, from the table's root r of 64 * k, k being the first ten bits of n, of 48
 table-square : (r : ℕ) → 65536 * r * (65536 * r) ≡ 4294967296 * (r * r)
 table-square r = ring (r ∷ []) (lit 65536 ⊗ var 0 ⊗ (lit 65536 ⊗ var 0)) (lit 4294967296 ⊗ (var 0 ⊗ var 0)) refl
 
@@ -101,7 +101,7 @@ start n r h l w = (
     under : (n r : ℕ) → r * r ≤ 64 * (n / 2 ^ 38) → 65536 * r * (65536 * r) ≤ n
     under n r w = omega (arith, table-square r)
 
--- ---- the first step, from 16384 d, with a quotient that may be 4 short
+-- ---- the first step, from 16384 d, with a quotient that is short by less than 4
 pub first-step : (n r : ℕ) → 2 ^ 46 ≤ n → n < 2 ^ 48 → WholeRoot (64 * (n / 2 ^ 38)) r → AboveRoot n 399 (8192 * (4 * r + 5) + 2 * (n / 65536 / (4 * r + 5)) + 2)
 first-step n r h l w =
     let s = start n r h l w in

@@ -1,12 +1,12 @@
--- The bits of a significand and its drop. Assumes nothing.
-use mathlib.Core.Path.{_≡_, refl, sym, ap, _∙_, subst}
+-- The bits of a significand and its exponent, packed. Assumes nothing.
+use mathlib.Core.Path.{_≡_, refl, sym}
 use mathlib.Core.Bool.{Bool, true, false, not, cond}
-use Prim.Native.Nat.{ℕ, zero, suc, _+_, _-_, _*_, _/_, _%_, _^_, _≤_, _<_}
-use native.Mathlib.Nat.{le-trans, le-of-eq, le-antisymm, lt-of-lt-of-le, lt-of-le-of-lt, mul-le-mul, mul-lt-mul-of-pos-right, mul-le-mul-left}
+use Prim.Native.Nat.{ℕ, _+_, _*_, _%_, _^_, _≤_, _<_}
+use native.Mathlib.Nat.{le-trans, le-of-eq, le-antisymm, lt-of-lt-of-le, lt-of-le-of-lt, mul-le-mul, mul-lt-mul-of-pos-right}
 use native.Mathlib.Omega.{arith}
-use lib.Dec.{T, ltb, ltb→lt, nltb→le, lit≤, lit<}
+use lib.Dec.{T, ltb, ltb→lt, nltb→le}
 use lib.Pow.{pow-pos, pow-add, pow-mono, pow-lt}
-use lib.Ieee.{Float, binary32, units, ofBits}
+use lib.Ieee.{binary32, units, ofBits}
 use Rattle.scalar.specs.Parts.{Packs}
 use Rattle.laws.proofs.ValueLaws.{packed}
 
@@ -40,6 +40,3 @@ plain q k P = let a = P .most in let b = P .range in omega arith
 
 pub plain-top : (q k : ℕ) → Packs q k → (k * 8388608 + q + 2147483648) % 2147483648 ≤ 2139095040
 plain-top q k P = let a = P .most in let b = P .range in omega arith
-
-pub turned : (x t : ℕ) → x + t ≡ t + x
-turned x t = omega arith

@@ -16,7 +16,7 @@ use lib.Ieee.{Float, nan, inf, fin, binary32, odd, units, round, rem, fits}
 use lib.Ieee.Bits.{ofBits-fits}
 use lib.Ieee.Exact.{HasValue, units-val, round-exact}
 use lib.Ieee.Fits.{odd-fits, round-fits}
-use Rattle.laws.proofs.LeadingLaws.{leading-lift}
+use Rattle.laws.proofs.LeadingLaws.{leading-shift}
 use Rattle.laws.proofs.Ring.{var, _⊕_, _⊗_}
 use Rattle.laws.proofs.RingNat.{ring}
 use Rattle.laws.proofs.ValueLaws.{value-unique}
@@ -103,13 +103,13 @@ module _ (r d : ℕ) (P : 0 < r) (H : r < 2 ^ 24) (D : d < 254) where
   z : ℕ
   z = leadingZeros 32 r - 8
 
-  lift : (2 ^ 23 ≤ r * 2 ^ z) × (r * 2 ^ z < 2 ^ 24)
-  lift = unfold z in leading-lift 32 r P (lt-of-lt-of-le H (lit≤ tt)) (leadingZeros 32 r - 8) 8 (let h = zeros-in r P H in omega arith)
+  normalized : (2 ^ 23 ≤ r * 2 ^ z) × (r * 2 ^ z < 2 ^ 24)
+  normalized = unfold z in leading-shift 32 r P (lt-of-lt-of-le H (lit≤ tt)) (leadingZeros 32 r - 8) 8 (let h = zeros-in r P H in omega arith)
 
   pub repacks-full : leadingZeros 32 r - 8 < d → Repacks r d (r * 2 ^ (leadingZeros 32 r - 8) % 4294967296) (d - (leadingZeros 32 r - 8))
   unfolding z
-  repacks-full h = subst (λ (q : ℕ). Repacks r d q (d - z)) (sym (mod-eq-of-lt (lt-trans (lift .1) (lit< tt)))) (record {
-    fine = record { most = le-of-lt (lift .1); range = omega arith; least = λ l. absurd (not-le-of-lt l (lift .0)) };
+  repacks-full h = subst (λ (q : ℕ). Repacks r d q (d - z)) (sym (mod-eq-of-lt (lt-trans (normalized .1) (lit< tt)))) (record {
+    fine = record { most = le-of-lt (normalized .1); range = omega arith; least = λ l. absurd (not-le-of-lt l (normalized .0)) };
     same = joined r z d (le-of-lt h);
   })
 
@@ -121,7 +121,7 @@ module _ (r d : ℕ) (P : 0 < r) (H : r < 2 ^ 24) (D : d < 254) where
   })
     where
       few : r * 2 ^ d < 2 ^ 24
-      few = lt-of-le-of-lt (mul-le-mul-left r (pow-mono h)) (lift .1)
+      few = lt-of-le-of-lt (mul-le-mul-left r (pow-mono h)) (normalized .1)
 
 -- ---- the cases of `%`
 
@@ -162,11 +162,11 @@ module _ (a b : Float) (s : Bool) (m k : ℕ) (A : a ≡ odd 24 s m k 149) where
       -- the exponent of b is above that of a, so that the significand of b has 24 bits, and b is larger
       pub rem-smaller : Split m k → Split n d → k < d → a ≡ rem binary32 a b
       rem-smaller S N h =
-          value-unique binary32 a (round binary32 s (m * 2 ^ k) (2 ^ 149)) s (m * 2 ^ k) fit (round-fits binary32 s (m * 2 ^ k) (2 ^ 149)) value (round-value s m k (S .digits) (S .range))
+          value-unique binary32 a (round binary32 s (m * 2 ^ k) (2 ^ 149)) s (m * 2 ^ k) fit (round-fits binary32 s (m * 2 ^ k) (2 ^ 149)) value (round-value s m k (S .bits) (S .range))
           ∙ sym (rem-sizes ∙ ap (λ (x : ℕ). round binary32 s x (2 ^ 149)) (mod-eq-of-lt less))
         where
           fit : T (fits binary32 a)
-          fit = subst (λ (x : Float). T (fits binary32 x)) (sym A) (odd-fits binary32 24 s m k (S .digits) (le-of-lt (S .digits)) (parts-under m k (S .digits) (S .range)))
+          fit = subst (λ (x : Float). T (fits binary32 x)) (sym A) (odd-fits binary32 24 s m k (S .bits) (le-of-lt (S .bits)) (parts-under m k (S .bits) (S .range)))
 
           full : 2 ^ 23 ≤ n
           full = let l = lt-of-not-le (λ (g : n ≤ 8388607). let z = N .least (omega arith) in omega arith) in omega arith
@@ -175,7 +175,7 @@ module _ (a b : Float) (s : Bool) (m k : ℕ) (A : a ≡ odd 24 s m k 149) where
           above k d h = omega arith
 
           less : m * 2 ^ k < n * 2 ^ d
-          less = lt-of-lt-of-le (shl-lt 24 k (S .digits)) (le-trans (pow-mono (above k d h)) (le-trans (le-of-eq (pow-add 2 23 d)) (mul-le-mul-right (2 ^ d) full)))
+          less = lt-of-lt-of-le (shl-lt 24 k (S .bits)) (le-trans (pow-mono (above k d h)) (le-trans (le-of-eq (pow-add 2 23 d)) (mul-le-mul-right (2 ^ d) full)))
 
       pub rem-rest : d ≤ k → round binary32 s (m * 2 ^ (k - d) % n * 2 ^ d) (2 ^ 149) ≡ rem binary32 a b
       rem-rest h =

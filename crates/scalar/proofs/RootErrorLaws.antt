@@ -15,7 +15,7 @@ use Rattle.scalar.specs.RootParts.{NearRoot}
 use Rattle.scalar.specs.RootMeaning.{radicand}
 use Rattle.scalar.proofs.RootMeaningLaws.{Rooted, rooted-at}
 
--- r has 24 digits and is nearest to the root of m, so r² is m within r, and r is at most 2 r² / 2 ^ 24
+-- r is at least 2 ^ 23 and nearest to the root of m, so r² is m within r, and r is at most 2 r² / 2 ^ 24
 square-near : (m r : ℕ) → NearRoot m r → Within (r * r * 16777216) (m * 16777216) (2 * (r * r))
 square-near m r h =
     let least : 16777216 * r ≤ 2 * r * r = mul-le-mul-right r (twice (h .least)) in

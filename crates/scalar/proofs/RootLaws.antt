@@ -109,7 +109,7 @@ module _ (w m g p : ℕ) (square : w ≡ m * (2 ^ suc g * 2 ^ suc g)) (near : Ne
       right : (2 * (p + 1) + 1) * G ≡ 2 * (p * G) + 3 * G
       right = ring (p ∷ G ∷ []) ((lit 2 ⊗ (var 0 ⊕ lit 1) ⊕ lit 1) ⊗ var 1) (lit 2 ⊗ (var 0 ⊗ var 1) ⊕ lit 3 ⊗ var 1) refl
 
-  -- ---- the root has 25 + g digits, of which g + 1 are dropped
+  -- ---- the root has 25 + g bits, of which g + 1 are dropped
   R-size : size R ≡ suc (24 + g)
   unfolding G
   R-size = size-is R (24 + g)

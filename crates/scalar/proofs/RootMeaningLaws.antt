@@ -15,7 +15,7 @@ use lib.Ieee.Scale.{finite}
 use Rattle.laws.specs.Exact.{negative, sizeIn}
 use Rattle.laws.proofs.Ring.{var, lit, _⊕_, _⊗_}
 use Rattle.laws.proofs.RingNat.{ring}
-use Rattle.laws.proofs.SizeLaws.{Digits, digits, size-of-value, coarse}
+use Rattle.laws.proofs.SizeLaws.{Significand, significand, size-of-value, coarse}
 use Rattle.scalar.specs.Root.{root, rootUnits}
 use Rattle.scalar.specs.RootParts.{NearRoot, Shift}
 use Rattle.scalar.specs.RootMeaning.{NearestRoot, radicand}
@@ -121,14 +121,14 @@ rooted x q k some few under v = record {
 
 pub rooted-at : (x : Float) → T (fits binary32 x) → T (finite x) → negative x ≡ false → 0 < sizeIn binary32 x → Rooted x
 rooted-at x F N P S =
-    rooted x (d .kept) (d .zeros) (first-pos (d .kept) (2 ^ d .zeros) (subst (λ (n : ℕ). 0 < n) is S)) (d .few)
-    (d .below) (subst (λ (s : Bool). HasValue x s (d .kept * 2 ^ d .zeros) (2 ^ 149)) P (d .value))
+    rooted x (d .bits) (d .exponent) (first-pos (d .bits) (2 ^ d .exponent) (subst (λ (n : ℕ). 0 < n) is S)) (d .few)
+    (d .below) (subst (λ (s : Bool). HasValue x s (d .bits * 2 ^ d .exponent) (2 ^ 149)) P (d .value))
   where
-    d : Digits binary32 x
-    d = digits binary32 x F N
+    d : Significand binary32 x
+    d = significand binary32 x F N
 
-    is : sizeIn binary32 x ≡ d .kept * 2 ^ d .zeros
-    is = size-of-value binary32 x (negative x) (d .kept * 2 ^ d .zeros) (d .value) .0
+    is : sizeIn binary32 x ≡ d .bits * 2 ^ d .exponent
+    is = size-of-value binary32 x (negative x) (d .bits * 2 ^ d .exponent) (d .value) .0
 
 -- ---- a size above zero is that of a finite value
 finite-of-size : (y : Float) → 0 < sizeIn binary32 y → T (finite y)

@@ -1,4 +1,4 @@
--- The one rounding (`round_pack`): the digits that are kept, past the largest value, and below the smallest. Assumes nothing.
+-- The one rounding (`round_pack`): where the unit in the last place is, past the largest value, and below the smallest. Assumes nothing.
 use mathlib.Core.Path.{_≡_, refl, sym, ap, ap₂, _∙_, subst}
 use mathlib.Core.Bool.{Bool}
 use mathlib.Core.List.{[], _∷_}
@@ -12,46 +12,46 @@ use lib.Count.{leadingZeros}
 use lib.Ieee.{inf, binary32, odd, units, round}
 use lib.Ieee.Bits.{cond-no}
 use lib.Ieee.Nearest.{closest, closest-same, nearest-ge}
-use Rattle.laws.specs.Jam.{jam}
+use Rattle.laws.specs.Sticky.{sticky}
 use Rattle.laws.proofs.Ring.{var, lit, _⊗_}
 use Rattle.laws.proofs.RingNat.{ring}
 use Rattle.laws.proofs.ClosestLaws.{closest-is}
-use Rattle.laws.proofs.JamLaws.{closest-jam, jam-least}
+use Rattle.laws.proofs.StickyLaws.{closest-sticky, sticky-least}
 use Rattle.scalar.specs.Parts.{Packs}
-use Rattle.scalar.specs.FusedParts.{Lifted}
-use Rattle.scalar.proofs.PlaceLaws.{round-place}
+use Rattle.scalar.specs.FusedParts.{Normalized}
+use Rattle.scalar.proofs.UlpLaws.{round-ulp}
 use Rattle.scalar.proofs.WordLaws.{closest-most}
 
--- v * 2 ^ e, whose first 63 digits are w: k digits are dropped of its smallest values, and g of w
-pub record Place (v w e k g : ℕ) : Type 0 where
-  pub digits : Lifted v w
+-- v * 2 ^ e, normalized to w: its unit in the last place is 2 ^ k of the smallest values, and g bits of w lie below it
+pub record Ulp (v w e k g : ℕ) : Type 0 where
+  pub normalized : Normalized v w
   pub same : g + e ≡ leadingZeros 64 v + 276 + k
   pub least : 39 ≤ g
   pub full : 0 < k → g ≡ 39
 
--- 24 digits are kept, or fewer
-pub place-full : (v w e : ℕ) → Lifted v w → leadingZeros 64 v + 237 < e → Place v w e (e - (leadingZeros 64 v + 237)) 39
-place-full v w e d h = record { digits = d; same = omega arith; least = lit≤ tt; full = λ p. refl }
+-- 24 bits are kept, or fewer
+pub ulp-full : (v w e : ℕ) → Normalized v w → leadingZeros 64 v + 237 < e → Ulp v w e (e - (leadingZeros 64 v + 237)) 39
+ulp-full v w e d h = record { normalized = d; same = omega arith; least = lit≤ tt; full = λ p. refl }
 
-pub place-low : (v w e : ℕ) → Lifted v w → e ≤ leadingZeros 64 v + 237 → Place v w e 0 (leadingZeros 64 v + 276 - e)
-place-low v w e d h = record { digits = d; same = omega arith; least = omega arith; full = λ p. absurd (omega arith) }
+pub ulp-low : (v w e : ℕ) → Normalized v w → e ≤ leadingZeros 64 v + 237 → Ulp v w e 0 (leadingZeros 64 v + 276 - e)
+ulp-low v w e d h = record { normalized = d; same = omega arith; least = omega arith; full = λ p. absurd (omega arith) }
 
-module _ (v w e k g : ℕ) (P : Place v w e k g) where
+module _ (v w e k g : ℕ) (P : Ulp v w e k g) where
   z : ℕ
   z = leadingZeros 64 v
 
-  moved : v * 2 ^ e * 2 ^ z ≡ v * 2 ^ z * 2 ^ e
-  moved = mul-right-comm v (2 ^ e) (2 ^ z)
+  shifted : v * 2 ^ e * 2 ^ z ≡ v * 2 ^ z * 2 ^ e
+  shifted = mul-right-comm v (2 ^ e) (2 ^ z)
 
   under : v * 2 ^ e < 2 ^ (301 + k)
   under =
       lt-of-mul-lt-mul-right (2 ^ z)
-      (lt-of-le-of-lt (le-of-eq moved)
+      (lt-of-le-of-lt (le-of-eq shifted)
       (lt-of-lt-of-le (mul-lt-mul-of-pos-right high (pow-pos e))
       (le-trans (le-of-eq (sym (pow-add 2 64 e))) (le-trans (pow-mono up) (le-of-eq (pow-add 2 (301 + k) z))))))
     where
       high : v * 2 ^ z < 2 ^ 64
-      high = unfold z in P .digits .high
+      high = unfold z in P .normalized .high
 
       up : 64 + e ≤ 301 + k + z
       up = unfold z in (let s = P .same in let l = P .least in omega arith)
@@ -60,11 +60,11 @@ module _ (v w e k g : ℕ) (P : Place v w e k g) where
   over p =
       le-of-mul-le-mul-right
       (le-trans (le-of-eq (sym (pow-add 2 (300 + k) z)))
-      (le-trans (pow-mono down) (le-trans (le-of-eq (pow-add 2 63 e)) (le-trans (mul-le-mul-right (2 ^ e) low) (le-of-eq (sym moved))))))
+      (le-trans (pow-mono down) (le-trans (le-of-eq (pow-add 2 63 e)) (le-trans (mul-le-mul-right (2 ^ e) low) (le-of-eq (sym shifted))))))
       (pow-pos z)
     where
       low : 2 ^ 63 ≤ v * 2 ^ z
-      low = unfold z in P .digits .low
+      low = unfold z in P .normalized .low
 
       down : 300 + k + z ≤ 63 + e
       down = unfold z in (let s = P .same in let f = P .full p in omega arith)
@@ -76,11 +76,11 @@ module _ (v w e k g : ℕ) (P : Place v w e k g) where
       ∙ mul-assoc v (2 ^ e) (2 ^ (3 + (g - 2)))
       ∙ ap (λ (n : ℕ). v * n) (sym (pow-add 2 e (3 + (g - 2))) ∙ ap (λ (n : ℕ). 2 ^ n) shift ∙ pow-add 2 z (277 + k))
       ∙ sym (mul-assoc v (2 ^ z) (2 ^ (277 + k))))
-      ∙ closest-jam (v * 2 ^ z) 2 (lit< tt) (2 ^ (g - 2)) (pow-pos (g - 2))
+      ∙ closest-sticky (v * 2 ^ z) 2 (lit< tt) (2 ^ (g - 2)) (pow-pos (g - 2))
       ∙ ap₂ (λ (m n : ℕ). closest m n) is (sym (pow-add 2 2 (g - 2)) ∙ ap (λ (n : ℕ). 2 ^ n) back)
     where
-      is : jam (v * 2 ^ z) 2 ≡ w
-      is = unfold z in sym (P .digits .is)
+      is : sticky (v * 2 ^ z) 2 ≡ w
+      is = unfold z in sym (P .normalized .is)
 
       shift : e + (3 + (g - 2)) ≡ z + (277 + k)
       shift = unfold z in (let s = P .same in let l = P .least in omega arith)
@@ -89,8 +89,8 @@ module _ (v w e k g : ℕ) (P : Place v w e k g) where
       back = let l = P .least in omega arith
 
   module _ (q : ℕ) (Q : q ≡ closest w (2 ^ g)) where
-    pub place-round : (s : Bool) → units binary32 s q k ≡ round binary32 s (v * 2 ^ e) (2 ^ 426)
-    place-round s = sym (round-place s (v * 2 ^ e) k under over ∙ ap (λ (n : ℕ). units binary32 s n k) (found ∙ sym Q))
+    pub ulp-round : (s : Bool) → units binary32 s q k ≡ round binary32 s (v * 2 ^ e) (2 ^ 426)
+    ulp-round s = sym (round-ulp s (v * 2 ^ e) k under over ∙ ap (λ (n : ℕ). units binary32 s n k) (found ∙ sym Q))
 
     q-least : 0 < k → 2 ^ 23 ≤ q
     q-least p =
@@ -98,11 +98,11 @@ module _ (v w e k g : ℕ) (P : Place v w e k g) where
         (le-trans (nearest-ge (w / 2 ^ g) (compare (w % 2 ^ g * 2) (2 ^ g))) (le-of-eq (sym Q)))
       where
         low : 2 ^ 62 ≤ w
-        low = subst (λ (n : ℕ). 2 ^ 62 ≤ n) (sym (P .digits .is)) (jam-least (v * 2 ^ leadingZeros 64 v) 2 (lit< tt) (2 ^ 61) (P .digits .low))
+        low = subst (λ (n : ℕ). 2 ^ 62 ≤ n) (sym (P .normalized .is)) (sticky-least (v * 2 ^ leadingZeros 64 v) 2 (lit< tt) (2 ^ 61) (P .normalized .low))
 
-    pub place-packs : k ≤ 253 → Packs q k
-    place-packs h = record {
-      most = le-trans (le-of-eq Q) (closest-most w g (P .digits .most) (P .least));
+    pub ulp-packs : k ≤ 253 → Packs q k
+    ulp-packs h = record {
+      most = le-trans (le-of-eq Q) (closest-most w g (P .normalized .most) (P .least));
       range = h;
       least = λ l. none k (λ p. not-le-of-lt l (q-least p));
     }
@@ -112,12 +112,12 @@ module _ (v w e k g : ℕ) (P : Place v w e k g) where
         none (suc k) f = absurd (f (omega arith))
 
   -- past the largest value
-  pub place-inf : (s : Bool) → 253 < k → units binary32 s 16777216 253 ≡ round binary32 s (v * 2 ^ e) (2 ^ 426)
+  pub ulp-inf : (s : Bool) → 253 < k → units binary32 s 16777216 253 ≡ round binary32 s (v * 2 ^ e) (2 ^ 426)
   unfolding units
-  place-inf s h =
+  ulp-inf s h =
       sym (cond-no (ltb (q * 2 ^ k) (2 ^ 277)) (odd 25 s q k 149) (inf s)
       (le→nltb (q * 2 ^ k) (2 ^ 277) (le-trans (pow-mono (over' k h)) (le-trans (le-of-eq (pow-add 2 23 k)) (mul-le-mul-right (2 ^ k) (q-least q refl (some k h)))))))
-      ∙ place-round q refl s
+      ∙ ulp-round q refl s
     where
       q : ℕ
       q = closest w (2 ^ g)
@@ -129,11 +129,11 @@ module _ (v w e k g : ℕ) (P : Place v w e k g) where
       some k h = omega arith
 
   -- below half the smallest value
-  pub place-none : (s : Bool) → 63 < g → units binary32 s 0 0 ≡ round binary32 s (v * 2 ^ e) (2 ^ 426)
-  place-none s h = ap (λ (n : ℕ). units binary32 s 0 n) (sym (none k (P .full))) ∙ place-round 0 (sym small) s
+  pub ulp-none : (s : Bool) → 63 < g → units binary32 s 0 0 ≡ round binary32 s (v * 2 ^ e) (2 ^ 426)
+  ulp-none s h = ap (λ (n : ℕ). units binary32 s 0 n) (sym (none k (P .full))) ∙ ulp-round 0 (sym small) s
     where
       small : closest w (2 ^ g) ≡ 0
-      small = closest-is w (2 ^ g) 0 (pow-pos g) (let p = pow-pos g in omega arith) (let b : 2 ^ 64 ≤ 2 ^ g = pow-mono h in let m = P .digits .most in omega arith)
+      small = closest-is w (2 ^ g) 0 (pow-pos g) (let p = pow-pos g in omega arith) (let b : 2 ^ 64 ≤ 2 ^ g = pow-mono h in let m = P .normalized .most in omega arith)
 
       none : (k : ℕ) → (0 < k → g ≡ 39) → k ≡ 0
       none zero f = refl

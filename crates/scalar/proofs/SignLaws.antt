@@ -2,13 +2,13 @@
 use mathlib.Core.Path.{_≡_, refl, sym, ap, _∙_, subst}
 use mathlib.Core.Bool.{Bool, true, false, not, _&&_, _||_, Bool·beq, cond, true≢false}
 use mathlib.Core.Logic.{inl, inr}
-use Prim.Native.Nat.{ℕ, zero, suc, _+_, _*_, _/_, _%_, _^_, _<_, _≤_}
-use lib.Dec.{T, ltb, eqb, eqb-refl, lt→ltb}
+use Prim.Native.Nat.{ℕ, zero, suc, _*_, _%_, _^_, _<_, _≤_}
+use lib.Dec.{T, eqb, eqb-refl, lt→ltb}
 use lib.Arith.{le→nltb}
 use lib.Ieee.{Float, nan, inf, fin, binary32, up, down, odd, neg, level, ne, eq, div, ofBits, nanBits, isNan}
 use lib.Ieee.Exact.{HasValue}
 use lib.Ieee.Scale.{finite}
-use lib.Ieee.Bits.{nanBits-is, nanBits-above, is-true, is-false}
+use lib.Ieee.Bits.{nanBits-is, nanBits-above, is-true}
 use lib.Ieee.Compare.{differs-from-itself}
 use Rattle.laws.specs.Exact.{negative}
 use Rattle.scalar.specs.Sign.{abs, copysign, signum, one}

@@ -1,4 +1,4 @@
--- What shifts of 64-bit words compute: a sticky cut, a rounded quotient, a number moved up. Assumes nothing.
+-- What shifts of 64-bit words compute: a quotient with a sticky bit, a rounded quotient, a normalized number. Assumes nothing.
 use mathlib.Core.Path.{_≡_, sym, ap, _∙_, subst}
 use mathlib.Core.Logic.{_⊎_, inl, inr}
 use Prim.Native.Nat.{ℕ, _+_, _-_, _*_, _/_, _%_, _^_, _≤_, _<_, compare}
@@ -9,24 +9,24 @@ use lib.Pow.{pow-pos, pow-add, pow-mono}
 use lib.Count.{leadingZeros}
 use lib.Ieee.Fits.{nearest-le}
 use lib.Ieee.Nearest.{closest}
-use Rattle.laws.specs.Jam.{jam}
-use Rattle.laws.proofs.LeadingLaws.{leading-lt, leading-lift}
+use Rattle.laws.specs.Sticky.{sticky}
+use Rattle.laws.proofs.LeadingLaws.{leading-lt, leading-shift}
 use Rattle.laws.proofs.CarryLaws.{closest-carry}
-use Rattle.laws.proofs.JamLaws.{jam-below, jam-far, jam-exact}
-use Rattle.scalar.specs.FusedParts.{Lifted}
+use Rattle.laws.proofs.StickyLaws.{sticky-below, sticky-far, sticky-exact}
+use Rattle.scalar.specs.FusedParts.{Normalized}
 
--- ---- a cut
-pub shift-within : (v d c : ℕ) → v < 18446744073709551616 → ((d < 63) × (c ≡ d)) ⊎ ((63 ≤ d) × (c ≡ 63)) → (c < 64) × (jam v (2 ^ c) ≡ jam v (2 ^ d))
-shift-within v d c h (inl p) = (omega arith, ap (λ (n : ℕ). jam v (2 ^ n)) (p .1))
+-- ---- shifted right
+pub shift-within : (v d c : ℕ) → v < 18446744073709551616 → ((d < 63) × (c ≡ d)) ⊎ ((63 ≤ d) × (c ≡ 63)) → (c < 64) × (sticky v (2 ^ c) ≡ sticky v (2 ^ d))
+shift-within v d c h (inl p) = (omega arith, ap (λ (n : ℕ). sticky v (2 ^ n)) (p .1))
 shift-within v d c h (inr p) = (
   omega arith,
-  ap (λ (n : ℕ). jam v (2 ^ n)) (p .1) ∙ jam-far v (2 ^ 63) (2 ^ d) h (lt-of-lt-of-le h (mul-le-mul-left 2 (pow-mono (p .0)))),
+  ap (λ (n : ℕ). sticky v (2 ^ n)) (p .1) ∙ sticky-far v (2 ^ 63) (2 ^ d) h (lt-of-lt-of-le h (mul-le-mul-left 2 (pow-mono (p .0)))),
 )
 
-pub cut-word : (v b : ℕ) → v < 18446744073709551616 → v / b * b % 18446744073709551616 ≡ v / b * b
-cut-word v b h = mod-eq-of-lt (lt-of-le-of-lt (div-mul-le-self v b) h)
+pub truncated-word : (v b : ℕ) → v < 18446744073709551616 → v / b * b % 18446744073709551616 ≡ v / b * b
+truncated-word v b h = mod-eq-of-lt (lt-of-le-of-lt (div-mul-le-self v b) h)
 
--- ---- a quotient
+-- ---- rounded to nearest even
 pub half-in : (g : ℕ) → g ≤ 63 → (0 < 2 ^ (g - 1)) × (2 ^ (g - 1) ≤ 2 ^ 62)
 half-in g h = (pow-pos (g - 1), pow-mono (below g h))
   where
@@ -58,28 +58,28 @@ quotient-fits x g h l = div-lt-iff-lt-mul (pow-pos g) .1 (lt-of-lt-of-le h (le-t
     wide : (g : ℕ) → 39 ≤ g → 64 ≤ 32 + g
     wide g h = omega arith
 
--- ---- v moved up, in either way
+-- ---- v normalized: shifted right by one with a sticky bit, or left
 module _ (v : ℕ) (P : 0 < v) (W : v < 2 ^ 64) where
-  lifted : (w : ℕ) → w ≡ jam (v * 2 ^ leadingZeros 64 v) 2 → Lifted v w
-  lifted w e =
-      let l = leading-lift 64 v P W (leadingZeros 64 v) 0 (add-zero (leadingZeros 64 v)) in
+  normalized : (w : ℕ) → w ≡ sticky (v * 2 ^ leadingZeros 64 v) 2 → Normalized v w
+  normalized w e =
+      let l = leading-shift 64 v P W (leadingZeros 64 v) 0 (add-zero (leadingZeros 64 v)) in
       record {
         zeros = leading-lt 64 v P W;
         low = l .0;
         high = l .1;
         is = e;
-        most = subst (λ (n : ℕ). n < 2 ^ 63) (sym e) (jam-below (v * 2 ^ leadingZeros 64 v) 2 (lit< tt) (2 ^ 62) (l .1));
+        most = subst (λ (n : ℕ). n < 2 ^ 63) (sym e) (sticky-below (v * 2 ^ leadingZeros 64 v) 2 (lit< tt) (2 ^ 62) (l .1));
       }
 
-  pub lifted-full : (w : ℕ) → leadingZeros 64 v ≡ 0 → w ≡ jam v (2 ^ 1) → Lifted v w
-  lifted-full w z e = lifted w (e ∙ ap (λ (n : ℕ). jam n 2) (sym (ap (λ (n : ℕ). v * 2 ^ n) z ∙ mul-one v)))
+  pub normalized-full : (w : ℕ) → leadingZeros 64 v ≡ 0 → w ≡ sticky v (2 ^ 1) → Normalized v w
+  normalized-full w z e = normalized w (e ∙ ap (λ (n : ℕ). sticky n 2) (sym (ap (λ (n : ℕ). v * 2 ^ n) z ∙ mul-one v)))
 
-  pub lifted-up : (leadingZeros 64 v ≡ 0 → ⊥) → Lifted v (v * 2 ^ (leadingZeros 64 v - 1) % 18446744073709551616)
-  lifted-up f =
-      lifted (v * 2 ^ (leadingZeros 64 v - 1) % 18446744073709551616)
-      (mod-eq-of-lt (lt-of-lt-of-le (leading-lift 64 v P W (leadingZeros 64 v - 1) 1 back .1) (lit≤ tt))
-      ∙ sym (jam-exact (v * 2 ^ (leadingZeros 64 v - 1)) 2 (lit< tt))
-      ∙ ap (λ (n : ℕ). jam n 2) (mul-assoc v (2 ^ (leadingZeros 64 v - 1)) 2 ∙ ap (λ (n : ℕ). v * n) (sym (pow-add 2 (leadingZeros 64 v - 1) 1) ∙ ap (λ (n : ℕ). 2 ^ n) back)))
+  pub normalized-shifted : (leadingZeros 64 v ≡ 0 → ⊥) → Normalized v (v * 2 ^ (leadingZeros 64 v - 1) % 18446744073709551616)
+  normalized-shifted f =
+      normalized (v * 2 ^ (leadingZeros 64 v - 1) % 18446744073709551616)
+      (mod-eq-of-lt (lt-of-lt-of-le (leading-shift 64 v P W (leadingZeros 64 v - 1) 1 back .1) (lit≤ tt))
+      ∙ sym (sticky-exact (v * 2 ^ (leadingZeros 64 v - 1)) 2 (lit< tt))
+      ∙ ap (λ (n : ℕ). sticky n 2) (mul-assoc v (2 ^ (leadingZeros 64 v - 1)) 2 ∙ ap (λ (n : ℕ). v * n) (sym (pow-add 2 (leadingZeros 64 v - 1) 1) ∙ ap (λ (n : ℕ). 2 ^ n) back)))
     where
       back : leadingZeros 64 v - 1 + 1 ≡ leadingZeros 64 v
       back = omega arith

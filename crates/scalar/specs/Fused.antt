@@ -1,4 +1,4 @@
--- The fused product (document 01, "Scalars": "a times b plus c rounded once").
+-- The fused multiply-add (document 01, "Scalars": "a times b plus c rounded once").
 use Prim.Native.Nat.{ℕ, _*_}
 use mathlib.Core.Bool.{Bool}
 use lib.IntN.{ℤ}

@@ -13,23 +13,23 @@ integral by nan = nan
 integral by (inf s) = inf s
 integral by (fin s m e) = round binary32 s (by s (m * up e) (down e)) 1
 
--- toward zero
-abbrev pub cut : Bool → ℕ → ℕ → ℕ
-cut s a b = a / b
+-- roundTowardZero: truncated
+abbrev pub towardZero : Bool → ℕ → ℕ → ℕ
+towardZero s a b = a / b
 
--- downward: away from zero where the number is negative
-abbrev pub lower : Bool → ℕ → ℕ → ℕ
-lower s a b = cond s (a / b + cond (eqb (a % b) 0) 0 1) (a / b)
+-- roundTowardNegative: away from zero where the number is negative
+abbrev pub towardNegative : Bool → ℕ → ℕ → ℕ
+towardNegative s a b = cond s (a / b + cond (eqb (a % b) 0) 0 1) (a / b)
 
--- to the nearest, a tie to the even one
-abbrev pub even : Bool → ℕ → ℕ → ℕ
-even s a b = closest a b
+-- roundTiesToEven: to nearest even
+abbrev pub tiesToEven : Bool → ℕ → ℕ → ℕ
+tiesToEven s a b = closest a b
 
 abbrev pub trunc : Float → Float
-trunc x = integral cut x
+trunc x = integral towardZero x
 
 abbrev pub floor : Float → Float
-floor x = integral lower x
+floor x = integral towardNegative x
 
 abbrev pub roundEven : Float → Float
-roundEven x = integral even x
+roundEven x = integral tiesToEven x

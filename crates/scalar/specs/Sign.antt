@@ -1,6 +1,6 @@
 -- Signs (document 01, "Scalars": "`abs`, `copysign` act on the sign bit; `signum` gives 1 or -1 by sign bit, NaN for NaN").
 -- The language shows no sign of a NaN, so that a NaN as a float counts as positive; on bit patterns each NaN has its sign.
-use Prim.Native.Nat.{ℕ, _+_, _%_, _^_}
+use Prim.Native.Nat.{ℕ, _+_, _%_}
 use mathlib.Core.Bool.{Bool, false, cond}
 use lib.Dec.{leb}
 use lib.Ieee.{Float, nan, inf, fin, neg, ofBits, binary32}

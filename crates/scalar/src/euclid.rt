@@ -8,7 +8,7 @@ use crate::remainder::pack_exact;
 use crate::remainder::rest;
 use crate::sign::abs;
 
-// The operator `%`: m * 2 ^ (k - d) modulo n, times 2 ^ d. Where k < d, b has 24 bits and is larger than a (rem-smaller, rem-rest).
+// The operator `%`: m * 2 ^ (k - d) modulo n, times 2 ^ d. Where k < d, b has 24 bits and is larger than a (RestLaws.rem-smaller, RestLaws.rem-rest).
 pub fn rem(a: f32, b: f32) -> f32
     ensures { λ r. ⌜ r ≡ Euclid.remainder a b ⌝ }
 {

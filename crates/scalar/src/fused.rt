@@ -1,4 +1,4 @@
-// The fused product: both terms cut to the higher one's place with a sticky digit, added and rounded once (laws: FusedLaws).
+// The fused multiply-add: the product and the third argument are shifted right to the larger exponent with a sticky bit, added, and rounded once.
 ghost use mathlib.Core.Path.{_≡_};
 ghost use mathlib.Core.Bool.{cond};
 ghost use Prim.Native.Nat.{_+_, _-_, _*_, _^_, _<_};
@@ -10,13 +10,13 @@ ghost use Rattle.scalar.specs.FusedParts.{Factored, Terms};
 use crate::bits::Parts;
 use crate::bits::decode;
 use crate::round_pack::BIAS;
-use crate::round_pack::jam;
 use crate::round_pack::round_pack;
+use crate::round_pack::shift_right_sticky;
 
-// The exponent of a product of two factors in 2 ^ -172, its 48 digits moved up by 14.
+// The exponent of a product of two factors in 2 ^ -172, its 48 bits shifted left by 14.
 const PRODUCT: u32 = BIAS - 2 * 172 - 14;
 
-// The exponent of a number in 2 ^ -149, its 24 digits moved up by 38.
+// The exponent of a number in 2 ^ -149, its 24 bits shifted left by 38.
 const TERM: u32 = BIAS - 149 - 38;
 
 // a times b plus c, rounded once.
@@ -24,15 +24,16 @@ pub fn mul_add(a: f32, b: f32, c: f32) -> f32
     ensures { λ r. ⌜ r ≡ Fused.mulAdd a b c ⌝ }
 {
     let Factor::Number(s, m, k) = factor_of(a) else {
-        return a * b + c;
+        return a * b + c; // FusedLaws.plain-first
     };
     let Factor::Number(t, n, d) = factor_of(b) else {
-        return a * b + c;
+        return a * b + c; // FusedLaws.plain-second
     };
     let Parts::Fin(u, q, g) = decode(c) else {
-        return c;
+        return c; // FusedLaws.other-term
     };
-    let p = (m as u64) * (n as u64);
+    let p = (m as u64) * (n as u64); // 2 ^ 46 ≤ p < 2 ^ 48 (FusedLaws.product-in)
+    // the terms meet what `aligned` requires (FusedLaws.terms), and their sum is a * b + c (FusedLaws.number-sum)
     aligned(
         s != t,
         p << 14,
@@ -43,7 +44,7 @@ pub fn mul_add(a: f32, b: f32, c: f32) -> f32
     )
 }
 
-// A factor: `Number(s, m, k)` is m times 2 ^ (k - 172), m of 24 digits; with any other factor the product is exact.
+// A factor: `Number(s, m, k)` is m times 2 ^ (k - 172), m of 24 bits; with any other factor the product is exact.
 enum Factor {
     Other,
     Number(bool, u32, u32),
@@ -56,13 +57,13 @@ fn factor_of(x: f32) -> Factor
         return Factor::Other;
     };
     if q == 0 {
-        return Factor::Other;
+        return Factor::Other; // FusedLaws.plain-zero
     }
     if q < 0x80_0000 {
-        let z = u32::leading_zeros(q) - 8;
-        return Factor::Number(s, q << z, 23 - z);
+        let z = u32::leading_zeros(q) - 8; // z ≤ 23 (FusedLaws.zeros-left)
+        return Factor::Number(s, q << z, 23 - z); // FusedLaws.factor-short
     }
-    Factor::Number(s, q, k + 23)
+    Factor::Number(s, q, k + 23) // FusedLaws.factor-full
 }
 
 // ±x times 2 ^ i plus ±y times 2 ^ j, counted in 2 ^ -BIAS, rounded once.
@@ -71,7 +72,14 @@ fn aligned(s: bool, x: u64, i: u32, t: bool, y: u64, j: u32) -> f32
     ensures { λ r. ⌜ r ≡ Ieee.sum binary32 s (x * 2 ^ i) t (y * 2 ^ j) (2 ^ 426) ⌝ }
 {
     let e = higher(i, j);
-    sum(s, jam(x, e - i), t, jam(y, e - j), e)
+    // in 63 bits each (AlignLaws.aligned-fit), and the rounded sum is the same (AlignLaws.aligned-sum)
+    sum(
+        s,
+        shift_right_sticky(x, e - i),
+        t,
+        shift_right_sticky(y, e - j),
+        e,
+    )
 }
 
 // The larger exponent.
@@ -88,10 +96,10 @@ fn sum(s: bool, x: u64, t: bool, y: u64, e: u32) -> f32
 {
     let v = size_of(s != t, x, y);
     if v == 0 {
-        return 0.0;
+        return 0.0; // SumSigns.sum-level
     }
     let negative = if x < y { t } else { s };
-    round_pack(negative, v, e)
+    round_pack(negative, v, e) // SumSigns.sum-sized
 }
 
 // The size of x plus y, or of their difference.

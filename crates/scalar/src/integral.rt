@@ -1,4 +1,4 @@
-// Whole results: toward zero, downward, to the nearest. From 2 ^ 23 on every float is whole (large-stays).
+// Whole results: toward zero, downward, to the nearest. From 2 ^ 23 on every float is whole (IntegralSums.large-stays).
 ghost use mathlib.Core.Path.{_≡_};
 ghost use mathlib.Core.Bool.{true, not, cond};
 ghost use Prim.Native.Nat.{_-_};
@@ -12,7 +12,7 @@ use crate::sign::copysign_bits;
 // 2 ^ 23: from here on a float has no bit below 1.
 const WHOLE: f32 = 8388608.0;
 
-// Toward zero: the bits that count less than 1 are cleared (cut-bits).
+// Toward zero: the bits that count less than 1 are cleared (IntegralBits.trunc-bits).
 pub fn trunc(x: f32) -> f32
     ensures { λ r. ⌜ r ≡ Integral.trunc x ⌝ }
 {
@@ -20,11 +20,11 @@ pub fn trunc(x: f32) -> f32
         return x;
     }
     let b = f32::to_bits(x);
-    let d = places(b % 0x8000_0000 / 0x80_0000);
+    let d = fraction_bits(b % 0x8000_0000 / 0x80_0000);
     f32::from_bits((b >> d) << d)
 }
 
-// Downward: the nearest whole number, or one less where that is above x (floor-near).
+// Downward: the nearest whole number, or one less where that is above x (IntegralSums.floor-near).
 pub fn floor(x: f32) -> f32
     ensures { λ r. ⌜ r ≡ Integral.floor x ⌝ }
 {
@@ -51,8 +51,8 @@ pub fn round(x: f32) -> f32
     x
 }
 
-// The whole number nearest to a number below 2 ^ 23 in size, ties to even: a + 2 ^ 23 is rounded at the unit's place, and the difference is
-// exact (near-whole).
+// The whole number nearest to a number below 2 ^ 23 in size, ties to even: the sum of its size and 2 ^ 23 has 1 as its unit in the last
+// place, and the difference is exact (WholeLaws.near-whole).
 fn near(x: f32) -> f32
     requires { ⌜ T (not (Ieee.isNan x)) ⌝ }
     requires { ⌜ Ieee.lt (Sign.abs x) (Ieee.ofBits binary32 0x4b000000) ≡ true ⌝ }
@@ -62,7 +62,7 @@ fn near(x: f32) -> f32
 }
 
 // How many bits of a pattern count less than 1, e being its exponent: all but the sign's below 1, none from 2 ^ 23 on.
-fn places(e: u32) -> u32
+fn fraction_bits(e: u32) -> u32
     ensures { λ d. ⌜ d ≡ cond (ltb e 127) 31 (150 - e) ⌝ }
 {
     if e < 127 {

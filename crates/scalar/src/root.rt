@@ -10,7 +10,7 @@ use crate::bits::decode;
 use crate::bits::pack;
 use roots::first_roots::first_root;
 
-// The rounded root. Most arguments are positive and of 24 digits; they are told by one comparison of bits.
+// The rounded root. Most arguments are positive and normal, and are told by their bits.
 pub fn sqrt(x: f32) -> f32
     ensures { λ r. ⌜ r ≡ Root.root x ⌝ }
 {
@@ -20,8 +20,8 @@ pub fn sqrt(x: f32) -> f32
     let b = f32::to_bits(x);
     if b >= 0x80_0000 {
         if b < 0x7f80_0000 {
-            let k = b / 0x80_0000 - 1;
-            return root_of(b % 0x80_0000 + 0x80_0000, k, 23 + k % 2);
+            let k = b / 0x80_0000 - 1; // x is (b % 2 ^ 23 + 2 ^ 23) * 2 ^ k smallest values (BitsLaws.normal)
+            return root_of(b % 0x80_0000 + 0x80_0000, k, 23 + k % 2); // RootPartsLaws.shift-normal
         }
     }
     other_root(x)
@@ -51,23 +51,23 @@ fn other_root(x: f32) -> f32
     }
 }
 
-// The rounded root of q times 2 ^ k of the smallest values, q being moved up by a digits.
+// The rounded root of q times 2 ^ k of the smallest values, q being shifted left by a bits.
 fn root_of(q: u32, k: u32, a: u32) -> f32
     requires { ⌜ Positive q k × Shift q k a ⌝ }
     ensures { λ r. ⌜ r ≡ Root.rootUnits (q * 2 ^ k) ⌝ }
 {
-    let n = (q as u64) << a;
+    let n = (q as u64) << a; // q * 2 ^ k * 2 ^ 149 is n * 4 ^ h, h being (k + 149 - a) / 2 (RootPartsLaws.radicand-is)
     let r = nearest_root(n);
-    pack(false, r, (k + 149 - a) / 2)
+    pack(false, r, (k + 149 - a) / 2) // the rounded root is r * 2 ^ h smallest values (RootPartsLaws.root-all)
 }
 
-// How far q is moved up, so that it has 47 or 48 digits and what is left of the exponent is even.
+// By how many bits q is shifted left, so that it has 47 or 48 bits and what is left of the exponent is even.
 fn shift_of(q: u32, k: u32) -> u32
     requires { ⌜ Positive q k ⌝ }
     ensures { λ r. ⌜ Shift q k r ⌝ }
 {
-    let least = 15 + u32::leading_zeros(q);
-    least + (k + 149 - least) % 2
+    let least = 15 + u32::leading_zeros(q); // 8 to 31 leading zeros (RootPartsLaws.zeros-in)
+    least + (k + 149 - least) % 2 // RootPartsLaws.shift-is
 }
 
 // The whole number nearest to the root of n. The root is never halfway between two.
@@ -77,19 +77,19 @@ fn nearest_root(n: u64) -> u32
 {
     let r = whole_root(n);
     if n - r * r > r {
-        return (r + 1) as u32;
+        return (r + 1) as u32; // the root is above r + 1/2 (RootPartsLaws.near-up)
     }
-    r as u32
+    r as u32 // it is below r + 1/2 (RootPartsLaws.near-stays)
 }
 
-// The whole root of a radicand of 47 or 48 digits.
+// The whole root R of a radicand of 47 or 48 bits.
 fn whole_root(n: u64) -> u64
     requires { ⌜ (2 ^ 46 ≤ n) × (n < 2 ^ 48) ⌝ }
     ensures { λ r. ⌜ WholeRoot n r ⌝ }
 {
-    let near = near_root(n); // R ≤ near ≤ R + 399
-    let next = newton(n, near); // R ≤ next ≤ R + 1
-    if next * next > n { next - 1 } else { next }
+    let near = near_root(n); // R ≤ near ≤ R + 399 (NewtonLaws.first-step)
+    let next = newton(n, near); // R ≤ next ≤ R + 1 (NewtonLaws.second-step)
+    if next * next > n { next - 1 } else { next } // R (NewtonLaws.last-below, NewtonLaws.last-is)
 }
 
 // One step of Newton's for the root of n, in whole numbers.
@@ -100,13 +100,13 @@ fn newton(n: u64, x: u64) -> u64
     (x + n / x) / 2
 }
 
-// The table's root r gives a start of 65536 r + 81920, above the root of n by at most 81920, and one step of Newton's from there is at most 399
-// above it. The start is 16384 d, so that the step's quotient is worked out in 32 digits, up to 4, which the last 2 makes good.
+// One step of Newton's from the start 16384 d, which is 65536 r + 81920 for the table's root r. The step's quotient is worked out in 32 bits
+// as 4 q, which is short by less than 4; the last 2 makes that good.
 fn near_root(n: u64) -> u64
     requires { ⌜ (2 ^ 46 ≤ n) × (n < 2 ^ 48) ⌝ }
     ensures { λ r. ⌜ AboveRoot n 399 r ⌝ }
 {
-    let d = 4 * (first_root((n >> 38) as usize) as u32) + 5;
-    let q = (n >> 16) as u32 / d;
-    8192 * (d as u64) + 2 * (q as u64) + 2
+    let d = 4 * (first_root((n >> 38) as usize) as u32) + 5; // R ≤ 16384 d ≤ R + 81920 (NewtonLaws.start)
+    let q = (n >> 16) as u32 / d; // q * 65536 d ≤ n < (q + 1) * 65536 d (in NewtonLaws.first-step)
+    8192 * (d as u64) + 2 * (q as u64) + 2 // R to R + 399 (NewtonLaws.first-step)
 }

@@ -68,10 +68,10 @@ pub fn is_sign_negative_bits(b: u32) -> bool
 pub fn copysign_bits(a: u32, b: u32) -> u32
     ensures { λ r. ⌜ r ≡ Sign.copysignBits a b ⌝ }
 {
-    let digits = a % 0x8000_0000;
+    let magnitude = a % 0x8000_0000;
     if b >= 0x8000_0000 {
-        0x8000_0000 + digits
+        0x8000_0000 + magnitude
     } else {
-        digits
+        magnitude
     }
 }

@@ -125,15 +125,15 @@ fused-vector a b c = record { f32-x = fused-fits (a .x) (b .x) (c .x); f32-y = f
 -- ---- rounding and remainders
 pub trunc-vector : (a : Vec3) → F32Vec (trunc a)
 unfolding trunc
-trunc-vector a = each-fits Integral.trunc (integral-fits Integral.cut) a
+trunc-vector a = each-fits Integral.trunc (integral-fits Integral.towardZero) a
 
 pub floor-vector : (a : Vec3) → F32Vec (floor a)
 unfolding floor
-floor-vector a = each-fits Integral.floor (integral-fits Integral.lower) a
+floor-vector a = each-fits Integral.floor (integral-fits Integral.towardNegative) a
 
 pub round-vector : (a : Vec3) → F32Vec (round a)
 unfolding round
-round-vector a = each-fits Integral.roundEven (integral-fits Integral.even) a
+round-vector a = each-fits Integral.roundEven (integral-fits Integral.tiesToEven) a
 
 pub quotient-vector : (a b : Vec3) → F32Vec (divEuclid a b)
 unfolding divEuclid

@@ -8,16 +8,10 @@ use Rattle.roots.proofs.FirstRootLaws.{found}
 use Rattle.roots.proofs.first_roots.first_root.Statement.{statement}
 use Rattle.roots.proofs.first_roots.first_root.Tie as tie
 
-row-at-requires : tie.Need-row-at-requires
-row-at-requires c κs = search needs
-
-entry-at-requires : tie.Need-entry-at-requires
-entry-at-requires c κs = search needs
-
 returns : tie.Need-returns
 returns c =
     let k = c .before .before .args .k in
     c .entry-at .ensures ∙ ap (λ (row : List ℕ). getD row (k % 8) 0) (c .before .row-at .ensures) ∙ found _ tt k
 
 pub first-root-spec : {M : Type 1} → statement M
-first-root-spec = tie.close (tie.spec row-at-requires entry-at-requires returns)
+first-root-spec = tie.close (tie.spec (λ c κs. search needs) (λ c κs. search needs) returns)

@@ -5,16 +5,10 @@ use Rattle.scalar.specs.Acos.{clamped}
 use lib.Ieee.{binary32, sub}
 use mathlib.Core.Bool.{true, false}
 use mathlib.Core.Logic.{inl, inr}
-use mathlib.Core.Path.{_≡_, refl, sym, ap, _∙_}
+use mathlib.Core.Path.{_≡_, sym, _∙_}
 use borrow.Author.Needs.{needs}
 use Rattle.scalar.proofs.acos.acos_approx.Statement.{statement}
 use Rattle.scalar.proofs.acos.acos_approx.Tie as tie
-
-abs-requires : tie.Need-abs-requires
-abs-requires c κs = search needs
-
-sqrt-requires : tie.Need-sqrt-requires
-sqrt-requires c κs = search needs
 
 at-least-zero : (j : tie.Joined1) → j .if1 .omx ≡ clamped (sub binary32 one (j .before .abs .result))
 at-least-zero j =
@@ -30,4 +24,10 @@ returns-2 c = let j = c .before .before in
     sym (acos-is (j .before .before .args .v) (j .before .abs .result) (c .before .sqrt .result) (j .if1 .omx) false (c .if2 .left) (j .before .abs .ensures) (at-least-zero j) (c .before .sqrt .ensures))
 
 pub acos-approx-spec : {M : Type 1} → statement M
-acos-approx-spec = tie.close (tie.spec abs-requires sqrt-requires returns returns-2)
+acos-approx-spec =
+    tie.close
+    (tie.spec
+    (λ c κs. search needs)
+    (λ c κs. search needs)
+    returns
+    returns-2)

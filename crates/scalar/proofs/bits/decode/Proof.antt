@@ -1,11 +1,10 @@
 -- `scalar::bits::decode` meets its contract. Assumes nothing.
-use mathlib.Core.Path.{_≡_, sym, subst}
-use mathlib.Core.Bool.{true}
+use mathlib.Core.Path.{sym, subst}
 use borrow.Author.Needs.{needs}
 use lib.Dec.{T, leb}
 use lib.Ieee.{binary32, fits, toBits}
 use lib.Ieee.Compare.{differs-from-itself}
-use Prim.Native.Nat.{ℕ, _%_, _/_}
+use Prim.Native.Nat.{_%_, _/_}
 use Rattle.scalar.proofs.BitsLaws.{equal-no-nan, fields, at-255, at-0, at-mid, split-0, split-mid}
 use Rattle.scalar.proofs.bits.decode.Statement.{statement}
 use Rattle.scalar.proofs.bits.decode.Tie as tie
@@ -31,12 +30,6 @@ returns-3 c =
     let b = toBits binary32 x in
     (at-0 x (leb 2147483648 b) (b % 2147483648 / 8388608) (b % 8388608) (fields x (held (c .before .before .before))) (c .if3 .taken), split-0 b)
 
-add-t7 : tie.Need-add-t7
-add-t7 c = search needs
-
-sub-t8 : tie.Need-sub-t8
-sub-t8 c = search needs
-
 returns-4 : tie.Need-returns-4
 returns-4 c =
     let x = c .before .before .before .args .x in
@@ -45,4 +38,12 @@ returns-4 c =
 
 pub decode-spec : {M : Type 1} → statement M
 decode-spec =
-    tie.close (tie.spec returns float-to-bits-b returns-2 returns-3 add-t7 sub-t8 returns-4)
+    tie.close
+    (tie.spec
+    returns
+    float-to-bits-b
+    returns-2
+    returns-3
+    (λ c. search needs)
+    (λ c. search needs)
+    returns-4)

@@ -1,23 +1,14 @@
 -- `scalar::bits::pack` meets its contract. Assumes nothing.
-use Rattle.scalar.proofs.PackLaws.{pack-is, plain, plain-top, turned}
+use Rattle.scalar.proofs.PackLaws.{pack-is, plain, plain-top}
 use Rattle.scalar.proofs.SignLaws.{pattern-plain}
 use lib.Ieee.{binary32, ofBits, units}
-use native.Mathlib.Nat.{add-assoc, zero-add}
+use native.Mathlib.Nat.{add-comm, add-assoc, zero-add}
 use Prim.Native.Nat.{ℕ, _+_, _*_}
 use mathlib.Core.Bool.{Bool, true, false}
-use mathlib.Core.Path.{_≡_, refl, sym, ap, _∙_, subst}
+use mathlib.Core.Path.{sym, ap, _∙_}
 use borrow.Author.Needs.{needs}
 use Rattle.scalar.proofs.bits.pack.Statement.{statement}
 use Rattle.scalar.proofs.bits.pack.Tie as tie
-
-mul-b : tie.Need-mul-b
-mul-b c = search needs
-
-add-b : tie.Need-add-b
-add-b c = search needs
-
-add-result : tie.Need-add-result
-add-result c = search needs
 
 float-from-bits-result : tie.Need-float-from-bits-result
 float-from-bits-result c = pattern-plain (c .before .args .k * 8388608 + c .before .args .q + 2147483648) (plain-top (c .before .args .q) (c .before .args .k) (c .before .pre))
@@ -25,7 +16,7 @@ float-from-bits-result c = pattern-plain (c .before .args .k * 8388608 + c .befo
 returns : tie.Need-returns
 returns c = let q = c .before .args .q in
     let k = c .before .args .k in
-    ap (λ (b : ℕ). ofBits binary32 b) (turned (k * 8388608 + q) 2147483648 ∙ sym (add-assoc 2147483648 (k * 8388608) q))
+    ap (λ (b : ℕ). ofBits binary32 b) (add-comm (k * 8388608 + q) 2147483648 ∙ sym (add-assoc 2147483648 (k * 8388608) q))
     ∙ pack-is true q k (c .before .pre)
     ∙ ap (λ (s : Bool). units binary32 s q k) (sym (c .if1 .taken))
 
@@ -43,9 +34,9 @@ pub pack-spec : {M : Type 1} → statement M
 pack-spec =
     tie.close
     (tie.spec
-    mul-b
-    add-b
-    add-result
+    (λ c. search needs)
+    (λ c. search needs)
+    (λ c. search needs)
     float-from-bits-result
     returns
     float-from-bits-result-2

@@ -27,28 +27,10 @@ divisor c = subst (λ (p : Parts). Decoded p (first c .before .before .before .a
 some : (c : tie.Else1) → 0 < c .before .before .n .given .0 .1 .0
 some c = omega (arith, c .if1 .left)
 
-decode-requires : tie.Need-decode-requires
-decode-requires c κs = search needs
-
-enum-known-s : tie.Need-enum-known-s
-enum-known-s c = search needs
-
 returns : tie.Need-returns
 returns c =
     let s = c .before .before in
     sym zero-by-zero ∙ rem-other (s .args .a) (s .args .b) (other (c .before .decode .result) (s .args .a) (c .match .keys2) (c .before .decode .ensures))
-
-decode-requires-2 : tie.Need-decode-requires-2
-decode-requires-2 c κs = search needs
-
-enum-told : tie.Need-enum-told
-enum-told c = search needs
-
-enum-told-2 : tie.Need-enum-told-2
-enum-told-2 c = search needs
-
-enum-known-n : tie.Need-enum-known-n
-enum-known-n c = search needs
 
 returns-2 : tie.Need-returns-2
 returns-2 c =
@@ -63,12 +45,12 @@ returns-3 c =
 rest-requires : tie.Need-rest-requires
 rest-requires c κs =
     let n = c .before .before .before in
-    (dividend (first n) .1 .digits, some (c .before), divisor n .1 .digits)
+    (dividend (first n) .1 .bits, some (c .before), divisor n .1 .bits)
 
 pack-exact-requires : tie.Need-pack-exact-requires
 pack-exact-requires c κs =
     let n = c .before .before .before .before in
-    (subst (λ (x : ℕ). x < 2 ^ 24) (sym (c .rest .ensures)) (lt-trans (mod-lt _ (some (c .before .before))) (divisor n .1 .digits)), divisor n .1 .range)
+    (subst (λ (x : ℕ). x < 2 ^ 24) (sym (c .rest .ensures)) (lt-trans (mod-lt _ (some (c .before .before))) (divisor n .1 .bits)), divisor n .1 .range)
 
 returns-4 : tie.Need-returns-4
 returns-4 c =
@@ -95,13 +77,13 @@ pub rem-spec : {M : Type 1} → statement M
 rem-spec =
     tie.close
     (tie.spec
-    decode-requires
-    enum-known-s
+    (λ c κs. search needs)
+    (λ c. search needs)
     returns
-    decode-requires-2
-    enum-told
-    enum-told-2
-    enum-known-n
+    (λ c κs. search needs)
+    (λ c. search needs)
+    (λ c. search needs)
+    (λ c. search needs)
     returns-2
     returns-3
     rest-requires

@@ -7,26 +7,11 @@ use Rattle.scalar.proofs.AlignLaws.{aligned-sum, aligned-fit}
 use Rattle.scalar.proofs.fused.aligned.Statement.{statement}
 use Rattle.scalar.proofs.fused.aligned.Tie as tie
 
-higher-requires : tie.Need-higher-requires
-higher-requires c κs = search needs
-
-sub-jam : tie.Need-sub-jam
-sub-jam c = search needs
-
-jam-requires : tie.Need-jam-requires
-jam-requires c κs = search needs
-
-sub-jam-2 : tie.Need-sub-jam-2
-sub-jam-2 c = search needs
-
-jam-requires-2 : tie.Need-jam-requires-2
-jam-requires-2 c κs = search needs
-
 sum-requires : tie.Need-sum-requires
 sum-requires c κs =
     let h = c .before .before in
     let a = h .before .args in
-    subst₂ (λ (m n : ℕ). (0 < m) × (m < 9223372036854775808) × (n < 9223372036854775808)) (sym (c .before .jam .ensures)) (sym (c .jam2 .ensures))
+    subst₂ (λ (m n : ℕ). (0 < m) × (m < 9223372036854775808) × (n < 9223372036854775808)) (sym (c .before .shift-right-sticky .ensures)) (sym (c .shift-right-sticky2 .ensures))
     (aligned-fit (a .s) (a .t) (a .x) (a .i) (a .y) (a .j) (h .higher .result) (h .before .pre) (h .higher .ensures))
 
 returns : tie.Need-returns
@@ -36,10 +21,17 @@ returns c =
     let a = h .before .args in
     let e = h .higher .result in
     c .sum .ensures
-    ∙ ap₂ (λ (m n : ℕ). sum binary32 (a .s) (m * 2 ^ e) (a .t) (n * 2 ^ e) (2 ^ 426)) (j .before .jam .ensures) (j .jam2 .ensures)
+    ∙ ap₂ (λ (m n : ℕ). sum binary32 (a .s) (m * 2 ^ e) (a .t) (n * 2 ^ e) (2 ^ 426)) (j .before .shift-right-sticky .ensures) (j .shift-right-sticky2 .ensures)
     ∙ aligned-sum (a .s) (a .t) (a .x) (a .i) (a .y) (a .j) e (h .before .pre) (h .higher .ensures)
 
 pub aligned-spec : {M : Type 1} → statement M
 aligned-spec =
     tie.close
-    (tie.spec higher-requires sub-jam jam-requires sub-jam-2 jam-requires-2 sum-requires returns)
+    (tie.spec
+    (λ c κs. search needs)
+    (λ c. search needs)
+    (λ c κs. search needs)
+    (λ c. search needs)
+    (λ c κs. search needs)
+    sum-requires
+    returns)

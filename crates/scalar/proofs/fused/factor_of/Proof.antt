@@ -12,12 +12,6 @@ use Rattle.scalar.proofs.fused.factor_of.Tie as tie
 parts : (c : tie.After-s) → Decoded (Parts.Fin (c .s .given .0 .0) (c .s .given .0 .1 .0) (c .s .given .0 .1 .1 .0)) (c .before .before .before .args .x)
 parts c = subst (λ (p : Parts). Decoded p (c .before .before .before .args .x)) (c .s .given .1) (c .before .before .decode .ensures)
 
-decode-requires : tie.Need-decode-requires
-decode-requires c κs = search needs
-
-enum-known-s : tie.Need-enum-known-s
-enum-known-s c = search needs
-
 returns : tie.Need-returns
 returns c = plain-other _ (other (c .before .decode .result) (c .before .before .args .x) (c .match .keys2) (c .before .decode .ensures))
 
@@ -46,8 +40,8 @@ pub factor-of-spec : {M : Type 1} → statement M
 factor-of-spec =
     tie.close
     (tie.spec
-    decode-requires
-    enum-known-s
+    (λ c κs. search needs)
+    (λ c. search needs)
     returns
     returns-2
     sub-z

@@ -11,7 +11,7 @@ use Rattle.scalar.proofs.FusedLaws.{plain-first, plain-second, other-te
 use Rattle.scalar.proofs.fused.mul_add.Statement.{statement}
 use Rattle.scalar.proofs.fused.mul_add.Tie as tie
 
--- the places: after a, b and c are taken apart
+-- where a and where b has been taken apart
 abbrev first : tie.After-t → tie.After-s
 first c = c .before .before .before .before
 
@@ -27,28 +27,10 @@ b-parts c = subst (λ (f : Factor). Factored f (first c .before .before .before 
 c-parts : (c : tie.After-u) → Decoded (Parts.Fin (c .u .given .0 .0) (c .u .given .0 .1 .0) (c .u .given .0 .1 .1 .0)) (first (second c) .before .before .before .args .c)
 c-parts c = subst (λ (p : Parts). Decoded p (first (second c) .before .before .before .args .c)) (c .u .given .1) (c .before .before .decode .ensures)
 
-factor-of-requires : tie.Need-factor-of-requires
-factor-of-requires c κs = search needs
-
-enum-known-s : tie.Need-enum-known-s
-enum-known-s c = search needs
-
-enum-told : tie.Need-enum-told
-enum-told c = search needs
-
 returns : tie.Need-returns
 returns c =
     let s = c .before .before .before .args in
     plain-first (s .a) (s .b) (s .c) (subst (λ (f : Factor). Factored f (s .a)) (c .enum-told .given .1) (c .before .before .factor-of .ensures))
-
-factor-of-requires-2 : tie.Need-factor-of-requires-2
-factor-of-requires-2 c κs = search needs
-
-enum-known-t : tie.Need-enum-known-t
-enum-known-t c = search needs
-
-enum-told-2 : tie.Need-enum-told-2
-enum-told-2 c = search needs
 
 returns-2 : tie.Need-returns-2
 returns-2 c =
@@ -56,23 +38,11 @@ returns-2 c =
     let s = f .before .before .before .args in
     plain-second (s .a) (s .b) (s .c) _ _ (a-parts f .value) (subst (λ (f : Factor). Factored f (s .b)) (c .enum-told2 .given .1) (c .before .before .factor-of2 .ensures))
 
-decode-requires : tie.Need-decode-requires
-decode-requires c κs = search needs
-
-enum-known-u : tie.Need-enum-known-u
-enum-known-u c = search needs
-
 returns-3 : tie.Need-returns-3
 returns-3 c =
     let t = c .before .before .before in
     let s = first t .before .before .before .args in
     other-term (s .a) (s .b) (s .c) _ _ _ _ (a-parts (first t) .value) (b-parts t .value) (other (c .before .decode .result) (s .c) (c .match3 .keys2) (c .before .decode .ensures))
-
-cast-p : tie.Need-cast-p
-cast-p c = search needs
-
-cast-p-2 : tie.Need-cast-p-2
-cast-p-2 c = search needs
 
 mul-p : tie.Need-mul-p
 mul-p c =
@@ -84,9 +54,6 @@ add-aligned c = let u = c .before in omega (arith, a-parts (first (second u)) .r
 
 add-aligned-2 : tie.Need-add-aligned-2
 add-aligned-2 c = let u = c .before in omega (arith, a-parts (first (second u)) .range, b-parts (second u) .range)
-
-cast-aligned : tie.Need-cast-aligned
-cast-aligned c = search needs
 
 add-aligned-3 : tie.Need-add-aligned-3
 add-aligned-3 c = omega (arith, c-parts (c .before) .1 .range)
@@ -103,23 +70,23 @@ pub mul-add-spec : {M : Type 1} → statement M
 mul-add-spec =
     tie.close
     (tie.spec
-    factor-of-requires
-    enum-known-s
-    enum-told
+    (λ c κs. search needs)
+    (λ c. search needs)
+    (λ c. search needs)
     returns
-    factor-of-requires-2
-    enum-known-t
-    enum-told-2
+    (λ c κs. search needs)
+    (λ c. search needs)
+    (λ c. search needs)
     returns-2
-    decode-requires
-    enum-known-u
+    (λ c κs. search needs)
+    (λ c. search needs)
     returns-3
-    cast-p
-    cast-p-2
+    (λ c. search needs)
+    (λ c. search needs)
     mul-p
     add-aligned
     add-aligned-2
-    cast-aligned
+    (λ c. search needs)
     add-aligned-3
     aligned-requires
     returns-4)

@@ -9,12 +9,6 @@ use Rattle.laws.specs.Within.{distance}
 use Rattle.scalar.proofs.fused.size_of.Statement.{statement}
 use Rattle.scalar.proofs.fused.size_of.Tie as tie
 
-sub-apart : tie.Need-sub-apart
-sub-apart c = search needs
-
-add-result : tie.Need-add-result
-add-result c = search needs
-
 apart-is : (c : tie.Joined1) → c .if1 .apart ≡ distance (c .before .args .x) (c .before .args .y)
 apart-is c = elim (c .if1 .came) [ inl p ↦ omega (arith, p .0 .taken, p .1) | inr p ↦ omega (arith, p .0 .left, p .1) ]
 
@@ -29,4 +23,4 @@ returns-2 c =
     ap (λ (b : Bool). cond b (distance (a .x) (a .y)) (a .x + a .y)) (sym (c .if2 .left))
 
 pub size-of-spec : {M : Type 1} → statement M
-size-of-spec = tie.close (tie.spec sub-apart add-result returns returns-2)
+size-of-spec = tie.close (tie.spec (λ c. search needs) (λ c. search needs) returns returns-2)

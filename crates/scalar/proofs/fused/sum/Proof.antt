@@ -14,17 +14,11 @@ none : ofBits binary32 0 ≡ round binary32 false 0 (2 ^ 426)
 unfolding ofBits round
 none = refl
 
-size-of-requires : tie.Need-size-of-requires
-size-of-requires c κs = search needs
-
 returns : tie.Need-returns
 returns c =
     let f = c .before .before in
     let a = f .args in
     none ∙ sym (sum-level binary32 (a .s) (a .t) (a .x) (a .y) (2 ^ a .e) (2 ^ 426) (c .before .size-of .result) (pow-pos (a .e)) (f .pre .0) (c .before .size-of .ensures) (c .if1 .taken))
-
-round-pack-requires : tie.Need-round-pack-requires
-round-pack-requires c κs = search needs
 
 returns-2 : tie.Need-returns-2
 returns-2 c =
@@ -36,4 +30,4 @@ returns-2 c =
     (elim (j .if2 .came) [ inl p ↦ inl (p .0 .taken, p .1) | inr p ↦ inr (p .0 .left, p .1) ])
 
 pub sum-spec : {M : Type 1} → statement M
-sum-spec = tie.close (tie.spec size-of-requires returns round-pack-requires returns-2)
+sum-spec = tie.close (tie.spec (λ c κs. search needs) returns (λ c κs. search needs) returns-2)

@@ -14,9 +14,6 @@ held c = subst T (sym (c .good .0 .1)) tt
 small : (c : tie.After-size) → lt (c .size .result) whole ≡ true
 small c = ap (λ (y : Float). lt y whole) (c .size .ensures) ∙ c .before .pre .1
 
-size-requires : tie.Need-size-requires
-size-requires c κs = search needs
-
 signed-requires : tie.Need-signed-requires
 signed-requires c κs = let s = c .before in (nearest-number (s .args .x) (c .size .result) (held s) (c .size .ensures) (small c), s .pre .0)
 
@@ -27,4 +24,4 @@ returns c =
     c .signed .ensures ∙ round-sum (s .args .x) (a .size .result) (held s) (a .size .ensures) (small a)
 
 pub near-spec : {M : Type 1} → statement M
-near-spec = tie.close (tie.spec size-requires signed-requires returns)
+near-spec = tie.close (tie.spec (λ c κs. search needs) signed-requires returns)

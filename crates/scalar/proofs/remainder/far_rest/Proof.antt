@@ -1,5 +1,6 @@
--- `scalar::remainder::far_rest` meets its contract. The loop's invariant: r has 24 bits, and r * 2 ^ left modulo n is m * 2 ^ e
--- modulo n; its measure: left. Assumes nothing.
+-- `scalar::remainder::far_rest` meets its contract. Assumes nothing.
+-- The loop's invariant: r has 24 bits, and r * 2 ^ left modulo n is m * 2 ^ e modulo n.
+-- Its measure: left, the bits still to be shifted, which each pass lowers by 40.
 use mathlib.Core.Path.{refl}
 use Prim.Native.Nat.{_*_, _%_, _^_}
 use native.Mathlib.Omega.{arith}
@@ -18,27 +19,9 @@ abbrev μ-loop : tie.MeasureT-loop
 loop-holds : tie.Need-loop-holds Inv-loop μ-loop
 loop-holds c = record { few = c .pre .0; same = refl }
 
-rem-r : tie.Need-rem-r Inv-loop μ-loop
-rem-r c = search needs
-
-sub-left : tie.Need-sub-left Inv-loop μ-loop
-sub-left c = search needs
-
-loop-less : tie.Need-loop-less Inv-loop μ-loop
-loop-less c = search needs
-
 loop-again : tie.Need-loop-again Inv-loop μ-loop
 loop-again c = let s = c .before .before in
     rest-more (s .args .m) (s .args .e) (s .args .n) (c .before .loop .r) (c .before .loop .left) (s .pre .1) (s .pre .2) (c .before .loop .inv) (c .loop-test .taken)
-
-cast-result : tie.Need-cast-result Inv-loop μ-loop
-cast-result c = search needs
-
-shl-result : tie.Need-shl-result Inv-loop μ-loop
-shl-result c = search needs
-
-rem-result : tie.Need-rem-result Inv-loop μ-loop
-rem-result c = search needs
 
 cast-result-2 : tie.Need-cast-result-2 Inv-loop μ-loop
 cast-result-2 c =
@@ -55,12 +38,12 @@ far-rest-spec =
     Inv-loop
     μ-loop
     loop-holds
-    rem-r
-    sub-left
-    loop-less
+    (λ c. search needs)
+    (λ c. search needs)
+    (λ c. search needs)
     loop-again
-    cast-result
-    shl-result
-    rem-result
+    (λ c. search needs)
+    (λ c. search needs)
+    (λ c. search needs)
     cast-result-2
     returns)

@@ -8,9 +8,6 @@ use borrow.Author.Needs.{needs}
 use Rattle.scalar.proofs.remainder.pack_exact.Statement.{statement}
 use Rattle.scalar.proofs.remainder.pack_exact.Tie as tie
 
-pack-requires : tie.Need-pack-requires
-pack-requires c κs = search needs
-
 returns : tie.Need-returns
 returns c = let s = c .before .before in c .pack .ensures ∙ repacked (s .args .s) (s .args .r) (s .args .d) 0 0 (s .pre .0) (s .pre .1) (repacks-none (s .args .r) (s .args .d) (c .before .if1 .taken))
 
@@ -23,9 +20,6 @@ sub-z c = zeros-in (c .before .args .r) (some c) (c .before .pre .0) .0
 
 shl-pack : tie.Need-shl-pack
 shl-pack c = let z = zeros-in (c .before .before .args .r) (some (c .before)) (c .before .before .pre .0) in omega arith
-
-sub-pack : tie.Need-sub-pack
-sub-pack c = search needs
 
 pack-requires-2 : tie.Need-pack-requires-2
 pack-requires-2 c κs = let s = c .before .before in repacks-full (s .args .r) (s .args .d) (some (c .before)) (s .pre .0) (s .pre .1) (c .if2 .taken) .fine
@@ -48,11 +42,11 @@ pub pack-exact-spec : {M : Type 1} → statement M
 pack-exact-spec =
     tie.close
     (tie.spec
-    pack-requires
+    (λ c κs. search needs)
     returns
     sub-z
     shl-pack
-    sub-pack
+    (λ c. search needs)
     pack-requires-2
     returns-2
     shl-pack-2

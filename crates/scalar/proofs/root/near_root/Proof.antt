@@ -10,30 +10,6 @@ use Rattle.scalar.proofs.NewtonLaws.{first-step}
 use Rattle.scalar.proofs.root.near_root.Statement.{statement}
 use Rattle.scalar.proofs.root.near_root.Tie as tie
 
-first-root-requires : tie.Need-first-root-requires
-first-root-requires c κs = search needs
-
-cast-d : tie.Need-cast-d
-cast-d c = search needs
-
-mul-d : tie.Need-mul-d
-mul-d c = search needs
-
-add-d : tie.Need-add-d
-add-d c = search needs
-
-cast-q : tie.Need-cast-q
-cast-q c = search needs
-
-div-q : tie.Need-div-q
-div-q c = search needs
-
-cast-result : tie.Need-cast-result
-cast-result c = search needs
-
-mul-result : tie.Need-mul-result
-mul-result c = search needs
-
 cast-result-2 : tie.Need-cast-result-2
 cast-result-2 c = let h = div-le-self (c .before .args .n / 65536) (4 * c .first-root .result + 5) in omega arith
 
@@ -56,14 +32,14 @@ pub near-root-spec : {M : Type 1} → statement M
 near-root-spec =
     tie.close
     (tie.spec
-    first-root-requires
-    cast-d
-    mul-d
-    add-d
-    cast-q
-    div-q
-    cast-result
-    mul-result
+    (λ c κs. search needs)
+    (λ c. search needs)
+    (λ c. search needs)
+    (λ c. search needs)
+    (λ c. search needs)
+    (λ c. search needs)
+    (λ c. search needs)
+    (λ c. search needs)
     cast-result-2
     mul-result-2
     add-result

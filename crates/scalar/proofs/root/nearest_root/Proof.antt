@@ -9,18 +9,6 @@ use Rattle.scalar.proofs.root.nearest_root.Tie as tie
 small : (c : tie.After-whole-root) → c .whole-root .result < 2 ^ 24
 small c = root-small (c .before .args .n) (c .whole-root .result) (c .before .pre .1) (c .whole-root .ensures)
 
-whole-root-requires : tie.Need-whole-root-requires
-whole-root-requires c κs = search needs
-
-mul-if1 : tie.Need-mul-if1
-mul-if1 c = search needs
-
-sub-if1 : tie.Need-sub-if1
-sub-if1 c = search needs
-
-add-result : tie.Need-add-result
-add-result c = search needs
-
 cast-result : tie.Need-cast-result
 cast-result c = omega (arith, small (c .before))
 
@@ -37,10 +25,10 @@ pub nearest-root-spec : {M : Type 1} → statement M
 nearest-root-spec =
     tie.close
     (tie.spec
-    whole-root-requires
-    mul-if1
-    sub-if1
-    add-result
+    (λ c κs. search needs)
+    (λ c. search needs)
+    (λ c. search needs)
+    (λ c. search needs)
     cast-result
     returns
     cast-result-2

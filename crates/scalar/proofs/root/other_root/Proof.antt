@@ -22,20 +22,8 @@ parts c = subst (λ (p : Parts). Decoded p (c .before .before .before .args .x))
 some : (c : tie.Else2) → 0 < c .before .before .s2 .given .0 .1 .0
 some c = omega (arith, c .if2 .left)
 
-decode-requires : tie.Need-decode-requires
-decode-requires c κs = search needs
-
-enum-told : tie.Need-enum-told
-enum-told c = search needs
-
-enum-known-s : tie.Need-enum-known-s
-enum-known-s c = search needs
-
 returns : tie.Need-returns
 returns c = let a = c .before .before in sym zero-by-zero ∙ root-neg-inf (a .before .before .before .args .x) (a .s .given .0 .0) (infinite a) (c .if1 .taken)
-
-enum-known-s-2 : tie.Need-enum-known-s-2
-enum-known-s-2 c = search needs
 
 returns-2 : tie.Need-returns-2
 returns-2 c =
@@ -51,7 +39,7 @@ returns-3 c =
 
 -- its significand is not zero
 positive : (c : tie.Else3) → Positive (c .before .before .before .s2 .given .0 .1 .0) (c .before .before .before .s2 .given .0 .1 .1 .0)
-positive c = let p = parts (c .before .before .before) in record { some = some (c .before); digits = p .1 .digits; range = p .1 .range }
+positive c = let p = parts (c .before .before .before) in record { some = some (c .before); bits = p .1 .bits; range = p .1 .range }
 
 shift-of-requires : tie.Need-shift-of-requires
 shift-of-requires c κs = positive c
@@ -75,11 +63,11 @@ pub other-root-spec : {M : Type 1} → statement M
 other-root-spec =
     tie.close
     (tie.spec
-    decode-requires
-    enum-told
-    enum-known-s
+    (λ c κs. search needs)
+    (λ c. search needs)
+    (λ c. search needs)
     returns
-    enum-known-s-2
+    (λ c. search needs)
     returns-2
     returns-3
     shift-of-requires

@@ -5,21 +5,6 @@ use Rattle.scalar.proofs.RootPartsLaws.{root-all}
 use Rattle.scalar.proofs.root.root_of.Statement.{statement}
 use Rattle.scalar.proofs.root.root_of.Tie as tie
 
-shl-n : tie.Need-shl-n
-shl-n c = search needs
-
-nearest-root-requires : tie.Need-nearest-root-requires
-nearest-root-requires c κs = search needs
-
-add-pack : tie.Need-add-pack
-add-pack c = search needs
-
-sub-pack : tie.Need-sub-pack
-sub-pack c = search needs
-
-pack-requires : tie.Need-pack-requires
-pack-requires c κs = search needs
-
 returns : tie.Need-returns
 returns c =
     let s = c .before .before in
@@ -27,4 +12,11 @@ returns c =
 
 pub root-of-spec : {M : Type 1} → statement M
 root-of-spec =
-    tie.close (tie.spec shl-n nearest-root-requires add-pack sub-pack pack-requires returns)
+    tie.close
+    (tie.spec
+    (λ c. search needs)
+    (λ c κs. search needs)
+    (λ c. search needs)
+    (λ c. search needs)
+    (λ c κs. search needs)
+    returns)

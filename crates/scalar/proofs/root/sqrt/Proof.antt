@@ -1,10 +1,10 @@
 -- `scalar::root::sqrt` meets its contract. Assumes nothing.
-use mathlib.Core.Path.{_≡_, refl, sym, _∙_, subst}
+use mathlib.Core.Path.{refl, sym, _∙_, subst}
 use mathlib.Core.Bool.{false}
 use Prim.Native.Nat.{_+_, _-_, _/_, _%_}
 use native.Mathlib.Omega.{arith}
 use lib.Dec.{T}
-use lib.Ieee.{binary32, fits, toBits}
+use lib.Ieee.{binary32, toBits}
 use lib.Ieee.Compare.{differs-from-itself}
 use borrow.Author.Needs.{needs}
 use Rattle.scalar.proofs.BitsLaws.{equal-no-nan, Normal, normal}
@@ -23,20 +23,11 @@ returns c = root-nan (c .before .args .x) (differs-from-itself (c .before .args 
 float-to-bits-b : tie.Need-float-to-bits-b
 float-to-bits-b c = equal-no-nan (c .before .args .x) (c .if1 .left)
 
-sub-k : tie.Need-sub-k
-sub-k c = search needs
-
-add-root-of : tie.Need-add-root-of
-add-root-of c = search needs
-
-add-root-of-2 : tie.Need-add-root-of-2
-add-root-of-2 c = search needs
-
 root-of-requires : tie.Need-root-of-requires
 root-of-requires c κs =
     let p = parts c in
     let b = toBits binary32 (c .before .before .before .args .x) in
-    (record { some = omega arith; digits = p .digits; range = p .range }, shift-normal (b % 8388608 + 8388608) (b / 8388608 - 1) (omega arith) (p .digits))
+    (record { some = omega arith; bits = p .bits; range = p .range }, shift-normal (b % 8388608 + 8388608) (b / 8388608 - 1) (omega arith) (p .bits))
 
 returns-2 : tie.Need-returns-2
 returns-2 c =
@@ -45,22 +36,16 @@ returns-2 c =
     let b = toBits binary32 x in
     c .root-of .ensures ∙ root-positive x false (b % 8388608 + 8388608) (b / 8388608 - 1) (parts t .is) (omega arith) refl
 
-other-root-requires : tie.Need-other-root-requires
-other-root-requires c κs = search needs
-
-returns-3 : tie.Need-returns-3
-returns-3 c = search needs
-
 pub sqrt-spec : {M : Type 1} → statement M
 sqrt-spec =
     tie.close
     (tie.spec
     returns
     float-to-bits-b
-    sub-k
-    add-root-of
-    add-root-of-2
+    (λ c. search needs)
+    (λ c. search needs)
+    (λ c. search needs)
     root-of-requires
     returns-2
-    other-root-requires
-    returns-3)
+    (λ c κs. search needs)
+    (λ c. search needs))

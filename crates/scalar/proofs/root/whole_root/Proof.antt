@@ -11,9 +11,6 @@ next c =
     let a = c .before .near-root in
     second-step (c .before .before .args .n) (a .result) (c .newton .result) (c .before .before .pre .0) (a .ensures) (c .newton .ensures)
 
-near-root-requires : tie.Need-near-root-requires
-near-root-requires c κs = search needs
-
 newton-requires : tie.Need-newton-requires
 newton-requires c κs =
     let n = c .before .args .n in
@@ -35,4 +32,4 @@ returns-2 c = last-is (c .before .before .before .args .n) (c .before .newton .r
 
 pub whole-root-spec : {M : Type 1} → statement M
 whole-root-spec =
-    tie.close (tie.spec near-root-requires newton-requires mul-if1 sub-result returns returns-2)
+    tie.close (tie.spec (λ c κs. search needs) newton-requires mul-if1 sub-result returns returns-2)

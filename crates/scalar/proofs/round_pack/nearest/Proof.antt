@@ -8,18 +8,6 @@ use Rattle.scalar.proofs.WordLaws.{half-word, half-in, carried, quotien
 use Rattle.scalar.proofs.round_pack.nearest.Statement.{statement}
 use Rattle.scalar.proofs.round_pack.nearest.Tie as tie
 
-shr-odd : tie.Need-shr-odd
-shr-odd c = search needs
-
-sub-half : tie.Need-sub-half
-sub-half c = search needs
-
-cast-half : tie.Need-cast-half
-cast-half c = search needs
-
-shl-half : tie.Need-shl-half
-shl-half c = search needs
-
 sub-result : tie.Need-sub-result
 sub-result c = omega (arith, half-word (c .args .g) (c .pre .2), half-in (c .args .g) (c .pre .2))
 
@@ -28,9 +16,6 @@ add-result c = omega (arith, half-word (c .args .g) (c .pre .2), half-in (c .arg
 
 add-result-2 : tie.Need-add-result-2
 add-result-2 c = omega (arith, half-word (c .args .g) (c .pre .2), half-in (c .args .g) (c .pre .2))
-
-shr-result : tie.Need-shr-result
-shr-result c = search needs
 
 found : (c : tie.Start) → (c .args .w + (1 * 2 ^ (c .args .g - 1) % 18446744073709551616 - 1) + c .args .w / 2 ^ c .args .g % 2) / 2 ^ c .args .g ≡ closest (c .args .w) (2 ^ c .args .g)
 found c = carried (c .args .w) (c .args .g) (c .pre .1) (c .pre .2)
@@ -45,13 +30,13 @@ pub nearest-spec : {M : Type 1} → statement M
 nearest-spec =
     tie.close
     (tie.spec
-    shr-odd
-    sub-half
-    cast-half
-    shl-half
+    (λ c. search needs)
+    (λ c. search needs)
+    (λ c. search needs)
+    (λ c. search needs)
     sub-result
     add-result
     add-result-2
-    shr-result
+    (λ c. search needs)
     cast-result
     returns)

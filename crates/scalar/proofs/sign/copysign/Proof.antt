@@ -2,16 +2,10 @@
 use mathlib.Core.Bool.{true, false}
 use Rattle.scalar.proofs.SignLaws.{copy}
 use lib.Ieee.{neg}
-use mathlib.Core.Path.{_≡_, refl, sym, ap, _∙_, subst}
+use mathlib.Core.Path.{sym, ap, _∙_}
 use borrow.Author.Needs.{needs}
 use Rattle.scalar.proofs.sign.copysign.Statement.{statement}
 use Rattle.scalar.proofs.sign.copysign.Tie as tie
-
-abs-requires : tie.Need-abs-requires
-abs-requires c κs = search needs
-
-is-sign-negative-requires : tie.Need-is-sign-negative-requires
-is-sign-negative-requires c κs = search needs
 
 returns : tie.Need-returns
 returns c = ap neg (c .before .before .abs .ensures) ∙ sym (copy (c .before .before .before .args .x) (c .before .before .before .args .sign) true (sym (c .before .is-sign-negative .ensures) ∙ c .if1 .taken))
@@ -20,4 +14,4 @@ returns-2 : tie.Need-returns-2
 returns-2 c = c .before .before .abs .ensures ∙ sym (copy (c .before .before .before .args .x) (c .before .before .before .args .sign) false (sym (c .before .is-sign-negative .ensures) ∙ c .if1 .left))
 
 pub copysign-spec : {M : Type 1} → statement M
-copysign-spec = tie.close (tie.spec abs-requires is-sign-negative-requires returns returns-2)
+copysign-spec = tie.close (tie.spec (λ c κs. search needs) (λ c κs. search needs) returns returns-2)

@@ -5,9 +5,6 @@ use borrow.Author.Needs.{needs}
 use Rattle.scalar.proofs.sign.copysign_bits.Statement.{statement}
 use Rattle.scalar.proofs.sign.copysign_bits.Tie as tie
 
-add-result : tie.Need-add-result
-add-result c = search needs
-
 returns : tie.Need-returns
 returns c = simp (le-leb 2147483648 (c .before .args .b) (c .if1 .taken))
 
@@ -15,4 +12,4 @@ returns-2 : tie.Need-returns-2
 returns-2 c = simp (lt-leb 2147483648 (c .before .args .b) (c .if1 .left), zero-add)
 
 pub copysign-bits-spec : {M : Type 1} → statement M
-copysign-bits-spec = tie.close (tie.spec add-result returns returns-2)
+copysign-bits-spec = tie.close (tie.spec (λ c. search needs) returns returns-2)

@@ -1,5 +1,5 @@
 -- `scalar::sign::is_finite` meets its contract. Assumes nothing.
-use mathlib.Core.Path.{_≡_, subst}
+use mathlib.Core.Path.{subst}
 use mathlib.Core.Logic.{inl, inr}
 use Rattle.scalar.specs.Parts.{Decoded}
 use Rattle.scalar.specs.declared.bits.Parts.{Parts}
@@ -7,18 +7,6 @@ use Rattle.scalar.proofs.SignLaws.{other-infinite, parts-finite}
 use borrow.Author.Needs.{needs}
 use Rattle.scalar.proofs.sign.is_finite.Statement.{statement}
 use Rattle.scalar.proofs.sign.is_finite.Tie as tie
-
-decode-requires : tie.Need-decode-requires
-decode-requires c κs = search needs
-
-enum-told : tie.Need-enum-told
-enum-told c = search needs
-
-enum-told-2 : tie.Need-enum-told-2
-enum-told-2 c = search needs
-
-enum-told-3 : tie.Need-enum-told-3
-enum-told-3 c = search needs
 
 returns : tie.Need-returns
 returns c = let x = c .before .before .before .args .x in
@@ -35,4 +23,12 @@ returns-3 c = let x = c .before .before .before .args .x in
 
 pub is-finite-spec : {M : Type 1} → statement M
 is-finite-spec =
-    tie.close (tie.spec decode-requires enum-told enum-told-2 enum-told-3 returns returns-2 returns-3)
+    tie.close
+    (tie.spec
+    (λ c κs. search needs)
+    (λ c. search needs)
+    (λ c. search needs)
+    (λ c. search needs)
+    returns
+    returns-2
+    returns-3)

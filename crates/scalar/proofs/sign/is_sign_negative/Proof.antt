@@ -2,22 +2,10 @@
 use Rattle.scalar.proofs.SignLaws.{sign-nan, sign-inf, sign-odd}
 use Rattle.scalar.specs.declared.bits.Parts.{Parts}
 use Rattle.scalar.specs.Parts.{Decoded}
-use mathlib.Core.Path.{_≡_, refl, sym, ap, _∙_, subst}
+use mathlib.Core.Path.{subst}
 use borrow.Author.Needs.{needs}
 use Rattle.scalar.proofs.sign.is_sign_negative.Statement.{statement}
 use Rattle.scalar.proofs.sign.is_sign_negative.Tie as tie
-
-decode-requires : tie.Need-decode-requires
-decode-requires c κs = search needs
-
-enum-told : tie.Need-enum-told
-enum-told c = search needs
-
-enum-known-s : tie.Need-enum-known-s
-enum-known-s c = search needs
-
-enum-known-s-2 : tie.Need-enum-known-s-2
-enum-known-s-2 c = search needs
 
 returns : tie.Need-returns
 returns c = sign-nan (c .before .before .before .args .x) (subst (λ (p : Parts). Decoded p (c .before .before .before .args .x)) (c .enum-told .given .1) (c .before .before .decode .ensures))
@@ -34,4 +22,11 @@ returns-3 c = let v = c .before .s2 .given in
 pub is-sign-negative-spec : {M : Type 1} → statement M
 is-sign-negative-spec =
     tie.close
-    (tie.spec decode-requires enum-told enum-known-s enum-known-s-2 returns returns-2 returns-3)
+    (tie.spec
+    (λ c κs. search needs)
+    (λ c. search needs)
+    (λ c. search needs)
+    (λ c. search needs)
+    returns
+    returns-2
+    returns-3)

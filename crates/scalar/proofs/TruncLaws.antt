@@ -1,4 +1,4 @@
--- A significand cut toward zero at the unit's place, and the pattern of what is left. Assumes nothing.
+-- A significand truncated to whole units, and the pattern of what is left. Assumes nothing.
 use mathlib.Core.Path.{_≡_, refl, sym, ap, _∙_, subst}
 use mathlib.Core.Bool.{Bool, true, false, cond}
 use Prim.Native.Nat.{ℕ, _+_, _-_, _*_, _/_, _%_, _^_, _≤_, _<_}
@@ -13,12 +13,12 @@ use lib.Ieee.Exact.{units-val}
 use lib.Ieee.Fits.{round-fits}
 use Rattle.laws.proofs.ValueLaws.{Value, value-unique}
 use Rattle.laws.proofs.WholeLaws.{whole-value}
-use Rattle.scalar.specs.Integral.{integral, cut}
+use Rattle.scalar.specs.Integral.{integral, towardZero}
 use Rattle.scalar.specs.Parts.{Split, Packs}
 use Rattle.scalar.proofs.PackLaws.{pack-is}
 use Rattle.scalar.proofs.PartsLaws.{value-of-parts}
 use Rattle.scalar.proofs.IntegralLaws.{integral-at}
-use Rattle.scalar.proofs.IntegralRules.{cut-rule}
+use Rattle.scalar.proofs.IntegralRules.{toward-zero-rule}
 
 -- the low bits of a sum with a multiple of u
 low-cleared : (m q u : ℕ) → 0 < u → (m * u + q) / u * u ≡ m * u + q / u * u
@@ -59,14 +59,14 @@ packed-whole s q k w P e h =
 
 -- ---- a significand q and its exponent k: d bits of q count less than 1
 module _ (x : Float) (s : Bool) (q k : ℕ) (e : x ≡ odd 24 s q k 149) (S : Split q k) where
-  cut-at : integral cut x ≡ round binary32 s (q * 2 ^ k / 2 ^ 149) 1
-  cut-at = integral-at cut (cut-rule .respects) x s (q * 2 ^ k) (2 ^ 149) (pow-pos 149) (value-of-parts x s q k e)
+  trunc-at : integral towardZero x ≡ round binary32 s (q * 2 ^ k / 2 ^ 149) 1
+  trunc-at = integral-at towardZero (toward-zero-rule .respects) x s (q * 2 ^ k) (2 ^ 149) (pow-pos 149) (value-of-parts x s q k e)
 
   -- all of them do
-  pub cut-small : k < 126 → ofBits binary32 (cond s 2147483648 0) ≡ integral cut x
-  cut-small h =
+  pub trunc-small : k < 126 → ofBits binary32 (cond s 2147483648 0) ≡ integral towardZero x
+  trunc-small h =
       ap (ofBits binary32) (sides (cond s 2147483648 0)) ∙ packed-whole s 0 0 0 (record { most = lit≤ tt; range = lit≤ tt; least = λ l. refl }) refl (lit≤ tt)
-      ∙ sym (cut-at ∙ ap (λ (w : ℕ). round binary32 s w 1) none)
+      ∙ sym (trunc-at ∙ ap (λ (w : ℕ). round binary32 s w 1) none)
     where
       sides : (n : ℕ) → n ≡ n + 0 + 0
       sides n = omega arith
@@ -78,7 +78,7 @@ module _ (x : Float) (s : Bool) (q k : ℕ) (e : x ≡ odd 24 s q k 149) (S : Sp
       zero-of n h = omega arith
 
       none : q * 2 ^ k / 2 ^ 149 ≡ 0
-      none = zero-of (q * 2 ^ k / 2 ^ 149) (div-lt-iff-lt-mul (pow-pos 149) .1 (lt-of-lt-of-le (shl-lt 24 k (S .digits)) (pow-mono (upto k h))))
+      none = zero-of (q * 2 ^ k / 2 ^ 149) (div-lt-iff-lt-mul (pow-pos 149) .1 (lt-of-lt-of-le (shl-lt 24 k (S .bits)) (pow-mono (upto k h))))
 
   module _ (l : 126 ≤ k) (h : k < 149) (full : 2 ^ 23 ≤ q) where
     d : ℕ
@@ -100,7 +100,7 @@ module _ (x : Float) (s : Bool) (q k : ℕ) (e : x ≡ odd 24 s q k 149) (S : Sp
     w-is : q * 2 ^ k / 2 ^ 149 ≡ w
     unfolding d w
     w-is =
-        cut-rule .respects s (q * 2 ^ k) (2 ^ 149) q (2 ^ d) (pow-pos 149) (pow-pos d)
+        toward-zero-rule .respects s (q * 2 ^ k) (2 ^ 149) q (2 ^ d) (pow-pos 149) (pow-pos d)
         (mul-assoc q (2 ^ k) (2 ^ d) ∙ ap (λ (n : ℕ). q * n) (sym (pow-add 2 k d) ∙ ap (λ (n : ℕ). 2 ^ n) (turned k h)))
       where
         turned : (k : ℕ) → k < 149 → k + (149 - k) ≡ 149
@@ -112,12 +112,12 @@ module _ (x : Float) (s : Bool) (q k : ℕ) (e : x ≡ odd 24 s q k 149) (S : Sp
 
     w-fits : w ≤ 2 ^ 24
     unfolding w
-    w-fits = le-trans (subst (λ (n : ℕ). n ≤ w * 2 ^ d) (mul-one w) (mul-le-mul-left w (pow-pos d))) (le-trans (div-mul-le-self q (2 ^ d)) (le-of-lt (S .digits)))
+    w-fits = le-trans (subst (λ (n : ℕ). n ≤ w * 2 ^ d) (mul-one w) (mul-le-mul-left w (pow-pos d))) (le-trans (div-mul-le-self q (2 ^ d)) (le-of-lt (S .bits)))
 
     packs : Packs (w * 2 ^ d) k
     unfolding w
     packs = record {
-      most = le-trans (div-mul-le-self q (2 ^ d)) (le-of-lt (S .digits));
+      most = le-trans (div-mul-le-self q (2 ^ d)) (le-of-lt (S .bits));
       range = omega arith;
       least = λ g. absurd (not-le-of-lt (short g) full);
     }
@@ -125,6 +125,6 @@ module _ (x : Float) (s : Bool) (q k : ℕ) (e : x ≡ odd 24 s q k 149) (S : Sp
         short : q / 2 ^ d * 2 ^ d < 2 ^ 23 → q < 2 ^ 23
         short g = lt-of-lt-of-le (div-lt-iff-lt-mul (pow-pos d) .0 (lt-of-mul-lt-mul-right (2 ^ d) (lt-of-lt-of-le g (le-of-eq times)))) (le-of-eq (sym times))
 
-    pub cut-mid : ofBits binary32 (cond s 2147483648 0 + k * 8388608 + q / 2 ^ (149 - k) * 2 ^ (149 - k)) ≡ integral cut x
+    pub trunc-mid : ofBits binary32 (cond s 2147483648 0 + k * 8388608 + q / 2 ^ (149 - k) * 2 ^ (149 - k)) ≡ integral towardZero x
     unfolding d w
-    cut-mid = packed-whole s (w * 2 ^ d) k w packs joined w-fits ∙ sym (cut-at ∙ ap (λ (n : ℕ). round binary32 s n 1) w-is)
+    trunc-mid = packed-whole s (w * 2 ^ d) k w packs joined w-fits ∙ sym (trunc-at ∙ ap (λ (n : ℕ). round binary32 s n 1) w-is)

@@ -1,4 +1,4 @@
--- Where the last digit of a rounded number stands: n, counted in 2 ^ -426, is rounded to a multiple of 2 ^ (277 + k). Assumes nothing.
+-- The unit in the last place of a rounded number: n, counted in 2 ^ -426, is rounded to a multiple of 2 ^ (277 + k). Assumes nothing.
 use mathlib.Core.Path.{_≡_, refl, sym, ap, _∙_, subst}
 use mathlib.Core.Bool.{Bool}
 use mathlib.Core.List.{[], _∷_}
@@ -14,9 +14,9 @@ use Rattle.laws.proofs.Ring.{var, lit, _⊗_}
 use Rattle.laws.proofs.RingNat.{ring}
 use Rattle.laws.proofs.ValueLaws.{size-is}
 
--- k digits of the smallest values are dropped where n lies between 2 ^ (300 + k) and 2 ^ (301 + k)
-place-size : (n k : ℕ) → n < 2 ^ (301 + k) → (0 < k → 2 ^ (300 + k) ≤ n) → size (n / 2 ^ 277) - 24 ≡ k
-place-size n k h l = go k refl
+-- that is 2 ^ k of the smallest values where n lies between 2 ^ (300 + k) and 2 ^ (301 + k)
+ulp-size : (n k : ℕ) → n < 2 ^ (301 + k) → (0 < k → 2 ^ (300 + k) ≤ n) → size (n / 2 ^ 277) - 24 ≡ k
+ulp-size n k h l = go k refl
   where
     under : n / 2 ^ 277 < 2 ^ (24 + k)
     under = div-lt-iff-lt-mul (pow-pos 277) .1 (lt-of-lt-of-le h (le-of-eq (ap (λ (x : ℕ). 2 ^ x) (high k) ∙ pow-add 2 (24 + k) 277)))
@@ -39,14 +39,14 @@ place-size n k h l = go k refl
         next : (k : ℕ) → 24 + k ≡ suc (23 + k)
         next k = omega arith
 
--- and for one k it does
-abbrev pub placeOf : ℕ → ℕ
-placeOf n = size (n / 2 ^ 277) - 24
+-- and for one k it does: the exponent of the unit in the last place, counted from the smallest value's
+abbrev pub ulpOf : ℕ → ℕ
+ulpOf n = size (n / 2 ^ 277) - 24
 
-pub place-under : (n : ℕ) → n < 2 ^ (301 + placeOf n)
-place-under n =
+pub ulp-under : (n : ℕ) → n < 2 ^ (301 + ulpOf n)
+ulp-under n =
     lt-of-lt-of-le (div-lt-iff-lt-mul (pow-pos 277) .0 (lt-of-lt-of-le (size-lt (n / 2 ^ 277)) (pow-mono (cover (size (n / 2 ^ 277))))))
-    (le-of-eq (sym (pow-add 2 (24 + placeOf n) 277) ∙ ap (λ (x : ℕ). 2 ^ x) (sums (placeOf n))))
+    (le-of-eq (sym (pow-add 2 (24 + ulpOf n) 277) ∙ ap (λ (x : ℕ). 2 ^ x) (sums (ulpOf n))))
   where
     cover : (z : ℕ) → z ≤ 24 + (z - 24)
     cover z = omega arith
@@ -54,10 +54,10 @@ place-under n =
     sums : (k : ℕ) → 24 + k + 277 ≡ 301 + k
     sums k = omega arith
 
-pub place-over : (n : ℕ) → 0 < placeOf n → 2 ^ (300 + placeOf n) ≤ n
-place-over n p =
-    le-trans (le-of-eq (ap (λ (x : ℕ). 2 ^ x) (sums (placeOf n)) ∙ pow-add 2 (23 + placeOf n) 277))
-    (le-div-iff-mul-le (pow-pos 277) .0 (size-reaches (n / 2 ^ 277) (23 + placeOf n) (inside (size (n / 2 ^ 277)) p)))
+pub ulp-over : (n : ℕ) → 0 < ulpOf n → 2 ^ (300 + ulpOf n) ≤ n
+ulp-over n p =
+    le-trans (le-of-eq (ap (λ (x : ℕ). 2 ^ x) (sums (ulpOf n)) ∙ pow-add 2 (23 + ulpOf n) 277))
+    (le-div-iff-mul-le (pow-pos 277) .0 (size-reaches (n / 2 ^ 277) (23 + ulpOf n) (inside (size (n / 2 ^ 277)) p)))
   where
     sums : (k : ℕ) → 300 + k ≡ 23 + k + 277
     sums k = omega arith
@@ -65,9 +65,9 @@ place-over n p =
     inside : (z : ℕ) → 0 < z - 24 → 23 + (z - 24) < z
     inside z h = omega arith
 
-pub round-place : (s : Bool) (n k : ℕ) → n < 2 ^ (301 + k) → (0 < k → 2 ^ (300 + k) ≤ n) → round binary32 s n (2 ^ 426) ≡ units binary32 s (closest n (2 ^ (277 + k))) k
-round-place s n k h l =
+pub round-ulp : (s : Bool) (n k : ℕ) → n < 2 ^ (301 + k) → (0 < k → 2 ^ (300 + k) ≤ n) → round binary32 s n (2 ^ 426) ≡ units binary32 s (closest n (2 ^ (277 + k))) k
+round-ulp s n k h l =
     round-is binary32 s n (2 ^ 426)
-    ∙ ap (λ (z : ℕ). core binary32 s (n * 2 ^ 149) (2 ^ 426) z) (ap (λ (z : ℕ). size z - 24) (mul-div-mul-right n (2 ^ 277) (pow-pos 149)) ∙ place-size n k h l)
+    ∙ ap (λ (z : ℕ). core binary32 s (n * 2 ^ 149) (2 ^ 426) z) (ap (λ (z : ℕ). size z - 24) (mul-div-mul-right n (2 ^ 277) (pow-pos 149)) ∙ ulp-size n k h l)
     ∙ ap (λ (z : ℕ). units binary32 s z k) (closest-same (n * 2 ^ 149) (2 ^ 426 * 2 ^ k) n (2 ^ (277 + k)) (mul-pos (pow-pos 426) (pow-pos k)) (pow-pos (277 + k))
     (ap (λ (z : ℕ). n * 2 ^ 149 * z) (pow-add 2 277 k) ∙ ring (n ∷ 2 ^ k ∷ []) (var 0 ⊗ lit (2 ^ 149) ⊗ (lit (2 ^ 277) ⊗ var 1)) (var 0 ⊗ (lit (2 ^ 426) ⊗ var 1)) refl))

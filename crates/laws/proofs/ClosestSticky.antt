@@ -1,4 +1,4 @@
--- Rounding sees of a fraction's low digits only whether they are all zero: the sticky digit. Assumes nothing.
+-- Rounding a fraction to nearest even depends on its low bits only by their sticky bit. Assumes nothing.
 use mathlib.Core.Path.{_≡_, sym, ap, _∙_}
 use mathlib.Core.Bool.{Bool, true, false, not, cond}
 use Prim.Native.Nat.{ℕ, _+_, _*_, _/_, _%_, _≤_, _<_, compare, Ordering, Ordering·lt, Ordering·eq, Ordering·gt}
@@ -8,6 +8,7 @@ use lib.Dec.{T, eqb, eqb→eq, lit<}
 use lib.Arith.{mod-mul}
 use lib.Ieee.{nearest}
 use lib.Ieee.Nearest.{closest}
+use Rattle.laws.specs.Sticky.{stickyBit}
 use Rattle.laws.proofs.BoolLaws.{pos-of-not-zero}
 use Rattle.laws.proofs.CompareLaws.{Cmp, cmp, same-compare}
 
@@ -44,36 +45,32 @@ orders x h c r R Ordering·gt k t z p =
     high true = omega arith
     high false = omega arith
 
--- 0 where the digits below c are all zero
-abbrev pub rest : ℕ → ℕ → ℕ
-rest v c = cond (eqb (v % c) 0) 0 1
-
 module _ (v c h : ℕ) (C : 0 < c) (H : 0 < h) where
   w : ℕ
   w = v / c
 
-  half : (2 * w + rest v c) / 2 ≡ w
+  half : (2 * w + stickyBit (v % c)) / 2 ≡ w
   half = go (eqb (v % c) 0)
     where
       go : (t : Bool) → (2 * w + cond t 0 1) / 2 ≡ w
       go true = omega arith
       go false = omega arith
 
-  bit : (2 * w + rest v c) % 2 ≡ rest v c
+  bit : (2 * w + stickyBit (v % c)) % 2 ≡ stickyBit (v % c)
   bit = go (eqb (v % c) 0)
     where
       go : (t : Bool) → (2 * w + cond t 0 1) % 2 ≡ cond t 0 1
       go true = omega arith
       go false = omega arith
 
-  wholes : v / (2 * h * c) ≡ (2 * w + rest v c) / (2 * h * 2)
+  wholes : v / (2 * h * c) ≡ (2 * w + stickyBit (v % c)) / (2 * h * 2)
   unfolding w
   wholes =
       ap (λ (z : ℕ). v / z) (mul-comm (2 * h) c)
       ∙ sym (div-div-eq-div-mul v c (2 * h))
       ∙ ap (λ (z : ℕ). z / (2 * h)) (sym half)
-      ∙ div-div-eq-div-mul (2 * (v / c) + rest v c) 2 (2 * h)
-      ∙ ap (λ (z : ℕ). (2 * (v / c) + rest v c) / z) (mul-comm 2 (2 * h))
+      ∙ div-div-eq-div-mul (2 * (v / c) + stickyBit (v % c)) 2 (2 * h)
+      ∙ ap (λ (z : ℕ). (2 * (v / c) + stickyBit (v % c)) / z) (mul-comm 2 (2 * h))
 
   x : ℕ
   x = w % (2 * h)
@@ -85,17 +82,17 @@ module _ (v c h : ℕ) (C : 0 < c) (H : 0 < h) where
   unfolding w x
   left = mod-mul v HH C
 
-  right : (2 * w + rest v c) % (2 * h * 2) ≡ x * 2 + rest v c
+  right : (2 * w + stickyBit (v % c)) % (2 * h * 2) ≡ x * 2 + stickyBit (v % c)
   unfolding x
-  right = mod-mul (2 * w + rest v c) HH (lit< tt) ∙ ap (λ (z : ℕ). z % (2 * h) * 2 + (2 * w + rest v c) % 2) half ∙ ap (λ (z : ℕ). w % (2 * h) * 2 + z) bit
+  right = mod-mul (2 * w + stickyBit (v % c)) HH (lit< tt) ∙ ap (λ (z : ℕ). z % (2 * h) * 2 + (2 * w + stickyBit (v % c)) % 2) half ∙ ap (λ (z : ℕ). w % (2 * h) * 2 + z) bit
 
-  tests : compare (v % (2 * h * c) * 2) (2 * h * c) ≡ compare ((2 * w + rest v c) % (2 * h * 2) * 2) (2 * h * 2)
+  tests : compare (v % (2 * h * c) * 2) (2 * h * c) ≡ compare ((2 * w + stickyBit (v % c)) % (2 * h * 2) * 2) (2 * h * 2)
   tests =
       ap (λ (z : ℕ). compare (z * 2) (2 * h * c)) left
       ∙ orders x h c (v % c) (mod-lt v C) (compare x h) (cmp x h) (eqb (v % c) 0) (eqb→eq (v % c) 0) (pos-of-not-zero (v % c))
       ∙ ap (λ (z : ℕ). compare (z * 2) (2 * h * 2)) (sym right)
 
-  -- v / c rounded to a multiple of 2 * h, by its whole part and whether there is a rest
-  pub closest-sticky : closest v (2 * h * c) ≡ closest (2 * (v / c) + rest v c) (2 * h * 2)
+  -- v / c rounded to a multiple of 2 * h, by its whole part and the sticky bit of the rest
+  pub closest-sticky-bit : closest v (2 * h * c) ≡ closest (2 * (v / c) + stickyBit (v % c)) (2 * h * 2)
   unfolding w
-  closest-sticky = ap (λ (z : ℕ). nearest z (compare (v % (2 * h * c) * 2) (2 * h * c))) wholes ∙ ap (λ (o : Ordering). nearest ((2 * (v / c) + rest v c) / (2 * h * 2)) o) tests
+  closest-sticky-bit = ap (λ (z : ℕ). nearest z (compare (v % (2 * h * c) * 2) (2 * h * c))) wholes ∙ ap (λ (o : Ordering). nearest ((2 * (v / c) + stickyBit (v % c)) / (2 * h * 2)) o) tests
