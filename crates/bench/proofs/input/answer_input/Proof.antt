@@ -22,10 +22,14 @@ loop-holds : tie.Need-loop-holds Inv-loop μ-loop
 loop-holds c = (nothing-read _ _ (c .fresh .ensures), refl, refl, refl)
 
 add-reads : tie.Need-add-reads Inv-loop μ-loop
-add-reads c = let at-test = c .before .before .before .before .before .before .before .before .before .before .before .before .before in omega (arith, at-test .loop-test .taken)
+add-reads c =
+    let at-before = c .before .before .before .before .before .before .before .before .before .before .before .before in
+    let at-test = at-before .before in omega (arith, at-test .loop-test .taken)
 
 loop-less : tie.Need-loop-less Inv-loop μ-loop
-loop-less c = let at-test = c .before .before .before .before .before .before .before .before .before .before .before .before .before in omega (arith, at-test .loop-test .taken)
+loop-less c =
+    let at-before = c .before .before .before .before .before .before .before .before .before .before .before .before in
+    let at-test = at-before .before in omega (arith, at-test .loop-test .taken)
 
 loop-again : tie.Need-loop-again Inv-loop μ-loop
 loop-again c =
@@ -43,7 +47,8 @@ returns c =
 
 returns-2 : tie.Need-returns-2 Inv-loop μ-loop
 returns-2 c =
-    let at-read = c .before .before .before .before .before .before .before .before .before .before .before .before .before .before in
+    let at-before = c .before .before .before .before .before .before .before .before .before .before .before .before .before in
+    let at-read = at-before .before in
     let at-loop = at-read .before .before .before .before .before in
     input-left _ _ _ _ _ _ (joined-fed (at-loop .loop .inv .0) (at-read .read-once .ensures)) write-failed-left
 

@@ -15,18 +15,26 @@ slice-write-out c = omega arith
 
 returns-2 : tie.Need-returns-2
 returns-2 c =
+    let at-put-field4 = c .before .before .before .before .before .before .before .before .before .before in
+    let at-put-field3 = at-put-field4 .before .before .before .before in
+    let at-put-field2 = at-put-field3 .before .before .before .before in
+    let at-put-field = at-put-field2 .before .before .before .before in
+    let at-if1 = at-put-field .before .before in
+    let start = at-if1 .before .before in
     rw (
       c .before .before .put-field6 .ensures,
       c .before .before .before .before .before .before .put-field5 .ensures,
-      c .before .before .before .before .before .before .before .before .before .before .put-field4 .ensures,
-      c .before .before .before .before .before .before .before .before .before .before .before .before .before .before .put-field3 .ensures,
-      c .before .before .before .before .before .before .before .before .before .before .before .before .before .before .before .before .before .before .put-field2 .ensures,
-      c .before .before .before .before .before .before .before .before .before .before .before .before .before .before .before .before .before .before .before .before .before .before .put-field .ensures,
+      at-put-field4 .put-field4 .ensures,
+      at-put-field3 .put-field3 .ensures,
+      at-put-field2 .put-field2 .ensures,
+      at-put-field .put-field .ensures,
     )
-    (put-line _ _ _ _ _ _ (c .before .before .before .before .before .before .before .before .before .before .before .before .before .before .before .before .before .before .before .before .before .before .before .before .before .before .args .out .now) (c .before .before .before .before .before .before .before .before .before .before .before .before .before .before .before .before .before .before .before .before .before .before .before .before .if1 .left))
+    (put-line _ _ _ _ _ _ (start .args .out .now) (at-if1 .if1 .left))
 
 same-length : tie.Need-same-length
-same-length c = ap length (returns-2 c) ∙ length-put _ _ _ _ _ _ (c .before .before .before .before .before .before .before .before .before .before .before .before .before .before .before .before .before .before .before .before .before .before .before .before .before .before .args .out .now)
+same-length c =
+    let start = c .before .before .before .before .before .before .before .before .before .before .before .before .before .before .before .before .before .before .before .before .before .before .before .before .before .before in
+    ap length (returns-2 c) ∙ length-put _ _ _ _ _ _ (start .args .out .now)
 
 pub put-six-spec : {M : Type 1} → statement M
 put-six-spec =

@@ -34,18 +34,34 @@ returns-9 : tie.Need-returns-9
 returns-9 c = ill-field _ _ (ill-later 0 3 _ _ (ill-later 3 3 _ _ (ill-later 6 3 _ _ (ill-later 9 3 _ _ (ill-later 12 11 _ _ (ill-later 23 11 _ _ (ill-here 34 11 _ _ (sym (c .before .before .field-of-113 .ensures) ∙ c .enum-told7 .given .1))))))))
 
 put-seven-requires : tie.Need-put-seven-requires
-put-seven-requires c κs = c .before .before .before .before .before .before .before .before .before .before .before .before .before .before .before .before .before .before .before .before .before .before .before .before .before .before .before .before .before .before .if1 .left
+put-seven-requires c κs =
+    let at-if1 = c .before .before .before .before .before .before .before .before .before .before .before .before .before .before .before .before .before .before .before .before .before .before .before .before .before .before .before .before .before .before in
+    at-if1 .if1 .left
 
 returns-10 : tie.Need-returns-10
 returns-10 c =
+    let at-v = c .before .before .before .before .before .before .before .before .before in
+    let at-field-of-112 = at-v .before .before in
+    let at-u = at-field-of-112 .before .before in
+    let at-field-of-11 = at-u .before .before in
+    let at-b = at-field-of-11 .before .before in
+    let at-field-of-34 = at-b .before .before in
+    let at-a = at-field-of-34 .before .before in
+    let at-field-of-33 = at-a .before .before in
+    let at-t = at-field-of-33 .before .before in
+    let at-field-of-32 = at-t .before .before in
+    let at-n = at-field-of-32 .before .before in
+    let at-field-of-3 = at-n .before .before in
+    let at-if2 = at-field-of-3 .before in
+    let at-if1 = at-if2 .before in
     is-read _ _ _ _ _ _ _ _ _ _
-    (read-seven _ _ _ _ _ _ _ _ _ (c .before .before .before .before .before .before .before .before .before .before .before .before .before .before .before .before .before .before .before .before .before .before .before .before .before .before .before .before .before .before .before .before .before .if1 .left) (c .before .before .before .before .before .before .before .before .before .before .before .before .before .before .before .before .before .before .before .before .before .before .before .before .before .before .before .before .before .before .before .before .if2 .left)
-    (sym (c .before .before .before .before .before .before .before .before .before .before .before .before .before .before .before .before .before .before .before .before .before .before .before .before .before .before .before .before .before .before .before .field-of-3 .ensures) ∙ c .before .before .before .before .before .before .before .before .before .before .before .before .before .before .before .before .before .before .before .before .before .before .before .before .before .before .before .before .before .n .given .1)
-    (sym (c .before .before .before .before .before .before .before .before .before .before .before .before .before .before .before .before .before .before .before .before .before .before .before .before .before .before .before .field-of-32 .ensures) ∙ c .before .before .before .before .before .before .before .before .before .before .before .before .before .before .before .before .before .before .before .before .before .before .before .before .before .t .given .1)
-    (sym (c .before .before .before .before .before .before .before .before .before .before .before .before .before .before .before .before .before .before .before .before .before .before .before .field-of-33 .ensures) ∙ c .before .before .before .before .before .before .before .before .before .before .before .before .before .before .before .before .before .before .before .before .before .a .given .1)
-    (sym (c .before .before .before .before .before .before .before .before .before .before .before .before .before .before .before .before .before .before .before .field-of-34 .ensures) ∙ c .before .before .before .before .before .before .before .before .before .before .before .before .before .before .before .before .before .b .given .1)
-    (sym (c .before .before .before .before .before .before .before .before .before .before .before .before .before .before .before .field-of-11 .ensures) ∙ c .before .before .before .before .before .before .before .before .before .before .before .before .before .u .given .1)
-    (sym (c .before .before .before .before .before .before .before .before .before .before .before .field-of-112 .ensures) ∙ c .before .before .before .before .before .before .before .before .before .v .given .1)
+    (read-seven _ _ _ _ _ _ _ _ _ (at-if1 .if1 .left) (at-if2 .if2 .left)
+    (sym (at-field-of-3 .field-of-3 .ensures) ∙ at-n .n .given .1)
+    (sym (at-field-of-32 .field-of-32 .ensures) ∙ at-t .t .given .1)
+    (sym (at-field-of-33 .field-of-33 .ensures) ∙ at-a .a .given .1)
+    (sym (at-field-of-34 .field-of-34 .ensures) ∙ at-b .b .given .1)
+    (sym (at-field-of-11 .field-of-11 .ensures) ∙ at-u .u .given .1)
+    (sym (at-field-of-112 .field-of-112 .ensures) ∙ at-v .v .given .1)
     (sym (c .before .before .before .before .before .before .before .field-of-113 .ensures) ∙ c .before .before .before .before .before .w .given .1))
     (c .before .before .put-seven .ensures)
 

@@ -11,10 +11,14 @@ use Rattle.lines.proofs.narrow.number.Tie as tie
 -- ---- at the sum: the digits, of which there are three at most, and its first two terms
 
 abbrev bytes : tie.Else5 → List ℕ
-bytes c = c .before .before .before .before .before .before .before .before .before .before .before .before .args .digits .now
+bytes c =
+    let start = c .before .before .before .before .before .before .before .before .before .before .before .before in
+    start .args .digits .now
 
 abbrev short : (c : tie.Else5) → length (bytes c) ≤ 3
-short c = c .before .before .before .before .before .before .before .before .before .before .before .before .pre
+short c =
+    let start = c .before .before .before .before .before .before .before .before .before .before .before .before in
+    start .pre
 
 hundreds : (c : tie.Else5) → c .before .before .before .before .before .before .before .before .digit .result * 100 * ((length (bytes c) - 1) / 2) ≤ 900
 hundreds c = hundreds-below _ _ (omega arith) (short c)
@@ -37,7 +41,9 @@ returns-4 : tie.Need-returns-4
 returns-4 c = other-ill _ _ (omega arith) (c .before .before .before .digit3 .ensures .other (omega arith))
 
 returns-5 : tie.Need-returns-5
-returns-5 c = zero-ill _ _ (c .before .before .before .before .before .before .before .before .before .before .before .before .pre) (c .before .before .before .before .before .before .before .before .digit .ensures .digit (omega arith)) (omega arith)
+returns-5 c =
+    let start = c .before .before .before .before .before .before .before .before .before .before .before .before in
+    zero-ill _ _ (start .pre) (c .before .before .before .before .before .before .before .before .digit .ensures .digit (omega arith)) (omega arith)
 
 mul-t16 : tie.Need-mul-t16
 mul-t16 c = omega (arith, hundreds c)

@@ -53,10 +53,17 @@ heard : (c : tie.After-consumed Inv-loop μ-loop) → let loop = c .before .befo
 heard c = rw (c .consumed .given .1) at (c .before .before .before .hear .ensures)
 
 add-i : tie.Need-add-i Inv-loop μ-loop
-add-i c = let r = heard (c .before .before .before .before .before .before .before .before .before .before .before .before .before) in omega (arith, c .before .before .before .before .before .before .before .before .before .before .before .before .before .before .before .before .before .before .before .before .before .before .before .before .before .before .before .good .1 .1 .0, r .ends .part)
+add-i c =
+    let at-consumed = c .before .before .before .before .before .before .before .before .before .before .before .before .before in
+    let start = at-consumed .before .before .before .before .before .before .before .before .before .before .before .before .before .before in
+    let r = heard at-consumed in
+    omega (arith, start .good .1 .1 .0, r .ends .part)
 
 loop-less : tie.Need-loop-less Inv-loop μ-loop
-loop-less c = let r = heard (c .before .before .before .before .before .before .before .before .before .before .before .before .before) in omega (arith, r .ends .part, ends-count _ _ _ _ (r .ends))
+loop-less c =
+    let at-consumed = c .before .before .before .before .before .before .before .before .before .before .before .before .before in
+    let r = heard at-consumed in
+    omega (arith, r .ends .part, ends-count _ _ _ _ (r .ends))
 
 loop-again : tie.Need-loop-again Inv-loop μ-loop
 loop-again c =

@@ -42,7 +42,9 @@ same-length : tie.Need-same-length
 same-length c = state-long (c .before .before .before .before .before)
 
 returns-2 : tie.Need-returns-2
-returns-2 c = respond-answered _ _ _ _ (c .before .before .before .before .before .if2 .six) _ (c .before .before .before .before .before .before .before .before .before .if1 .left) (answered (c .before .before .before .before .before)) (c .before .before .put-line .ensures)
+returns-2 c =
+    let at-if1 = c .before .before .before .before .before .before .before .before .before in
+    respond-answered _ _ _ _ (c .before .before .before .before .before .if2 .six) _ (at-if1 .if1 .left) (answered (c .before .before .before .before .before)) (c .before .before .put-line .ensures)
 
 pub respond-spec : {M : Type 1} → statement M
 respond-spec =
