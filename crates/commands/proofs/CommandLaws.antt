@@ -8,7 +8,7 @@ use lib.Ieee.{binary32}
 use lib.Ieee.Bits.{ofBits-fits}
 use borrow.Author.Tests.{ltb-true, ltb-false}
 use Rattle.vector.specs.ExactVectors.{F32Vec}
-use Rattle.vector.proofs.VectorFits.{zero-vector}
+use Rattle.vector.proofs.values.VectorFits.{zero-vector}
 use Rattle.commands.specs.declared.command.Command.{Command}
 use Rattle.commands.specs.Codes.{rowCount}
 use Rattle.commands.specs.Rows.{ModelRow}

@@ -9,7 +9,7 @@ use lib.Dec.{T, eqb, ltb, ltb→lt, nltb→le}
 use lib.ListN.{List·getD-eq-default}
 use lib.Ieee.Fits.{and-l, and-r}
 use borrow.Author.Tests.{lt-leb}
-use Rattle.laws.proofs.BoolLaws.{beq-same}
+use Rattle.laws.proofs.numbers.BoolLaws.{beq-same}
 use Rattle.commands.specs.Codes.{last, emptyKind}
 use Rattle.commands.specs.Results.{isDirection}
 use Rattle.commands.specs.Commands.{Kinds, Filled, Directions, allows, Entry, table, entryAt}

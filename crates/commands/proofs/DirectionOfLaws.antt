@@ -7,7 +7,7 @@ use mathlib.Core.Bool.{Bool, true, false, cond, true≢false}
 use lib.Dec.{T}
 use denote.Floats.{passes}
 use Rattle.laws.specs.Within.{Within}
-use Rattle.laws.proofs.BoolLaws.{cond-any}
+use Rattle.laws.proofs.numbers.BoolLaws.{cond-any}
 use Rattle.vector.specs.declared.vec3.Vec3.{Vec3}
 use Rattle.vector.specs.declared.vec3.normalizing.Normalized.{Normalized}
 use Rattle.vector.specs.declared.vec3.normalizing.Normalized.the-variants.{Unit, Nothing}
@@ -16,8 +16,8 @@ use Rattle.vector.specs.Normalizing.{usable, tryNormalize}
 use Rattle.vector.specs.ExactVectors.{F32Vec, UnitWithin, Direction, exactSquare}
 use Rattle.vector.specs.DirectionOf.{acceptable}
 use Rattle.vector.specs.NumericLaws.{HasDirection}
-use Rattle.vector.proofs.VectorFits.{zero-vector, scaled-vector}
-use Rattle.vector.proofs.UnitLaws.{law-u}
+use Rattle.vector.proofs.values.VectorFits.{zero-vector, scaled-vector}
+use Rattle.vector.proofs.units.UnitLaws.{law-u}
 use Rattle.commands.specs.Results.{directionOf}
 use Rattle.commands.specs.Refusals.{isNothing}
 use Rattle.commands.specs.Effects.{directionIn}

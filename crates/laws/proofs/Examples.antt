@@ -13,15 +13,15 @@ use lib.Ieee.Scale.{grid, finite, normal-of-fraction}
 use Rattle.laws.specs.Within.{Within}
 use Rattle.laws.specs.Exact.{negative, sizeIn}
 use Rattle.laws.specs.RoundsTo.{gap, off}
-use Rattle.laws.proofs.Ring.{var, lit, _⊕_, _⊗_}
-use Rattle.laws.proofs.RingNat.{Expr, ring}
-use Rattle.laws.proofs.Certificates.{cert, by, done, square}
-use Rattle.laws.proofs.RingInt as Z
-use Rattle.laws.proofs.RoundingError.{round-relative, finite-round}
-use Rattle.laws.proofs.SizeLaws.{size-of-value, value-of-size, size-unique}
-use Rattle.laws.proofs.OperationLaws.{mul-at}
-use Rattle.laws.proofs.OverflowLaws.{size-under}
-use Rattle.laws.proofs.RoundNearest.{round-nearest}
+use Rattle.laws.proofs.solvers.Ring.{var, lit, _⊕_, _⊗_}
+use Rattle.laws.proofs.solvers.RingNat.{Expr, ring}
+use Rattle.laws.proofs.solvers.Certificates.{cert, by, done, square}
+use Rattle.laws.proofs.solvers.RingInt as Z
+use Rattle.laws.proofs.rounding.RoundingError.{round-relative, finite-round}
+use Rattle.laws.proofs.values.SizeLaws.{size-of-value, value-of-size, size-unique}
+use Rattle.laws.proofs.operations.OperationLaws.{mul-at}
+use Rattle.laws.proofs.rounding.OverflowLaws.{size-under}
+use Rattle.laws.proofs.rounding.RoundNearest.{round-nearest}
 
 -- ---- equations over ℕ
 square-of-sum : (a b : ℕ) → (a + b) * (a + b) ≡ a * a + 2 * a * b + b * b

@@ -8,12 +8,12 @@ use lib.Ieee.{Float, binary32, ofBits, isNan}
 use Rattle.laws.specs.Exact.{negative}
 use Rattle.scalar.specs.Sign as Sign
 use Rattle.scalar.specs.Sign.{signBit}
-use Rattle.scalar.proofs.BitSignLaws.{sign-of-bits, copysign-of-bits}
+use Rattle.scalar.proofs.floats.BitSignLaws.{sign-of-bits, copysign-of-bits}
 use Rattle.vector.specs.declared.vec3.Vec3.{Vec3}
 use Rattle.vector.specs.Comparisons as Comparisons
 use Rattle.vector.specs.Signs as Signs
 use Rattle.vector.specs.Signs.{ofPatterns, isNegativeBitmask, isNegativeBitmaskBits}
-use Rattle.vector.proofs.SignsLaws.{bitmask-of-patterns, copysign-of-patterns}
+use Rattle.vector.proofs.meanings.SignsLaws.{bitmask-of-patterns, copysign-of-patterns}
 
 number : (x : Float) → isNan x ≡ false → T (not (isNan x))
 number x e = subst (λ (b : Bool). T (not b)) (sym e) tt

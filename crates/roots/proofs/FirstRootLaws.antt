@@ -11,7 +11,7 @@ use lib.Ieee.Fits.{and-l, and-r}
 use borrow.Author.Tests.{ltb-true, ltb-false, lt-ltb, le-ltb}
 use types.Run.{OneOf}
 use Rattle.laws.specs.WholeRoot.{WholeRoot, wholeRoot}
-use Rattle.laws.proofs.WholeRootLaws.{whole-root-is, root-unique}
+use Rattle.laws.proofs.numbers.WholeRootLaws.{whole-root-is, root-unique}
 use Rattle.roots.specs.FirstRoot.{firstRoot}
 use Rattle.roots.specs.RowParts.{none, rowOf}
 use Rattle.roots.proofs.TableLaws.{every, at}

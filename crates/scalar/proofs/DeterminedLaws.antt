@@ -12,11 +12,11 @@ use lib.Ieee.Nearest.{closest}
 use Rattle.laws.specs.Within.{distance, Within}
 use Rattle.laws.specs.Exact.{negative, sizeIn}
 use Rattle.laws.specs.Determines.{Determines}
-use Rattle.laws.proofs.CompareLaws.{Cmp, cmp, equal-or-not}
-use Rattle.laws.proofs.ClosestLaws.{closest-near, near-of-best, even-unique}
-use Rattle.laws.proofs.SignedLaws.{zero-or-signed}
-use Rattle.laws.proofs.SizeLaws.{size-unique}
-use Rattle.laws.proofs.RoundDetermined.{rounding-determined}
+use Rattle.laws.proofs.numbers.CompareLaws.{Cmp, cmp, equal-or-not}
+use Rattle.laws.proofs.rounding.ClosestLaws.{closest-near, near-of-best, even-unique}
+use Rattle.laws.proofs.numbers.SignedLaws.{zero-or-signed}
+use Rattle.laws.proofs.values.SizeLaws.{size-unique}
+use Rattle.laws.proofs.rounding.RoundDetermined.{rounding-determined}
 use Rattle.scalar.specs.RootMeaning.{NearestRoot, radicand}
 use Rattle.scalar.specs.FusedMeaning.{RoundedOnce, exactSum}
 use Rattle.scalar.specs.IntegralMeaning.{Whole, Truncated, Floored, RoundedEven}

@@ -16,15 +16,15 @@ use lib.Ieee.{Float, nan, inf, fin, binary32, odd, units, round, rem, fits}
 use lib.Ieee.Bits.{ofBits-fits}
 use lib.Ieee.Exact.{HasValue, units-val, round-exact}
 use lib.Ieee.Fits.{odd-fits, round-fits}
-use Rattle.laws.proofs.LeadingLaws.{leading-shift}
-use Rattle.laws.proofs.Ring.{var, _⊕_, _⊗_}
-use Rattle.laws.proofs.RingNat.{ring}
-use Rattle.laws.proofs.ValueLaws.{value-unique}
+use Rattle.laws.proofs.numbers.LeadingLaws.{leading-shift}
+use Rattle.laws.proofs.solvers.Ring.{var, _⊕_, _⊗_}
+use Rattle.laws.proofs.solvers.RingNat.{ring}
+use Rattle.laws.proofs.values.ValueLaws.{value-unique}
 use Rattle.scalar.specs.Parts.{Split, Packs}
-use Rattle.scalar.proofs.PackLaws.{pack-is}
-use Rattle.scalar.proofs.PartsLaws.{Other, value-of-parts, parts-under}
+use Rattle.scalar.proofs.floats.PackLaws.{pack-is}
+use Rattle.scalar.proofs.floats.PartsLaws.{Other, value-of-parts, parts-under}
 use Rattle.scalar.proofs.RemainderLaws.{mod-scale, rem-at, apart}
-use Rattle.scalar.proofs.RootPartsLaws.{zeros-in}
+use Rattle.scalar.proofs.roots.RootPartsLaws.{zeros-in}
 
 -- ---- 40 bits at a time
 

@@ -9,7 +9,7 @@ use lib.Ieee.{Float, binary32, ofBits}
 use lib.Ieee.Bits.{ofBits-toBits, ofBits-fits}
 use Rattle.vector.specs.Vectors.{vec}
 use Rattle.vector.specs.ExactVectors.{F32Vec}
-use Rattle.vector.proofs.VectorFits.{zero-vector}
+use Rattle.vector.proofs.values.VectorFits.{zero-vector}
 use Rattle.commands.specs.Codes.{rowCount}
 use Rattle.commands.specs.Rows.{ModelRow, empty, rowAt, withRow, fresh}
 use Rattle.sheet.specs.Words.{rowWidth, stateWords, wordRow, rowsFrom, modelOf, freshWords, rowWords, putRow}

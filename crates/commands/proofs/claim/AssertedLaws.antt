@@ -7,12 +7,12 @@ use lib.Dec.{T, eqb}
 use lib.Ieee.Scale.{finite}
 use borrow.Author.Tests.{eqb-true, eqb-false, eq-eqb, not-false}
 use denote.Floats.{passes}
-use Rattle.laws.proofs.BoolLaws.{cond-by}
+use Rattle.laws.proofs.numbers.BoolLaws.{cond-by}
 use Rattle.vector.specs.declared.vec3.Vec3.{Vec3}
 use Rattle.vector.specs.Projections.{otherLenSqRcp}
 use Rattle.vector.specs.ExactVectors.{Direction}
 use Rattle.vector.specs.Asserts.{assertsProjectOnto, assertsRejectFrom, assertsProjectOntoNormalized, assertsRejectFromNormalized}
-use Rattle.vector.proofs.AssertedLaws.{law-s}
+use Rattle.vector.proofs.units.AssertedLaws.{law-s}
 use Rattle.commands.specs.declared.command.Command.{Command}
 use Rattle.commands.specs.Codes.{pointKind, directionKind}
 use Rattle.commands.specs.Rows.{ModelRow}

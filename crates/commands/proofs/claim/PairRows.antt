@@ -4,7 +4,7 @@ use mathlib.Core.Bool.{false}
 use Rattle.vector.specs.declared.vec3.Vec3.{Vec3}
 use Rattle.vector.specs.Orthogonal.{anyOrthonormalPair}
 use Rattle.vector.specs.ExactVectors.{Direction, NearlyOrthogonal}
-use Rattle.vector.proofs.PairLaws.{law-p}
+use Rattle.vector.proofs.pairs.PairLaws.{law-p}
 use Rattle.commands.specs.declared.command.Command.{Command}
 use Rattle.commands.specs.Rows.{direction}
 use Rattle.commands.specs.Fields.{Sources}

@@ -10,7 +10,7 @@ use lib.Ieee.{ofBits}
 use Rattle.vector.specs.declared.vec3.Vec3.{Vec3}
 use Rattle.vector.specs.Vectors.{ZERO}
 use Rattle.vector.specs.ExactVectors.{F32Vec, FiniteVec, Direction}
-use Rattle.vector.proofs.VectorFits.{zero-vector}
+use Rattle.vector.proofs.values.VectorFits.{zero-vector}
 use Rattle.commands.specs.Codes.{rowCount}
 use Rattle.commands.specs.Rows.{ModelRow, State, empty, point, direction, fresh, rowAt, withRow}
 use Rattle.commands.specs.Model.{withRows}

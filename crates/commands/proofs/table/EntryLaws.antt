@@ -4,7 +4,7 @@ use Prim.Native.Nat.{ℕ}
 use mathlib.Core.Path.{_≡_, refl}
 use mathlib.Core.Bool.{Bool, true, false}
 use lib.Ieee.{Float}
-use Rattle.scalar.proofs.FitsLaws.{Fits32}
+use Rattle.scalar.proofs.floats.FitsLaws.{Fits32}
 use Rattle.vector.specs.declared.vec3.Vec3.{Vec3}
 use Rattle.vector.specs.ExactVectors.{F32Vec}
 use Rattle.commands.specs.Rows.{ModelRow}

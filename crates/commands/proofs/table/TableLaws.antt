@@ -4,7 +4,7 @@ use mathlib.Core.Path.{refl}
 use native.Mathlib.Omega.{arith}
 use lib.Ieee.{binary32}
 use lib.Ieee.Fits.{add-fits, mul-fits, neg-fits}
-use Rattle.laws.proofs.BoolLaws.{cond-any}
+use Rattle.laws.proofs.numbers.BoolLaws.{cond-any}
 use Rattle.vector.specs.declared.vec3.Vec3.{Vec3}
 use Rattle.vector.specs.Operators.{add, sub}
 use Rattle.vector.specs.Elements.{min, max, minPosition, maxPosition}
@@ -16,7 +16,7 @@ use Rattle.vector.specs.Rounding.{trunc, floor, round, divEuclid, remEuclid}
 use Rattle.vector.specs.Optics.{angleBetween}
 use Rattle.vector.specs.Orthogonal.{anyOrthogonalVector, anyOrthonormalPair}
 use Rattle.vector.specs.ExactVectors.{F32Vec}
-use Rattle.vector.proofs.VectorFits as Fit
+use Rattle.vector.proofs.values.VectorFits as Fit
 use Rattle.commands.specs.Codes.{last}
 use Rattle.commands.specs.Fields.{Sources}
 use Rattle.commands.specs.Results.{isDirection}

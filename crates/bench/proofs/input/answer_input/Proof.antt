@@ -23,13 +23,11 @@ loop-holds c = (nothing-read _ _ (c .fresh .ensures), refl, refl, refl)
 
 add-reads : tie.Need-add-reads Inv-loop μ-loop
 add-reads c =
-    let at-before = c .before .before .before .before .before .before .before .before .before .before .before .before in
-    let at-test = at-before .before in omega (arith, at-test .loop-test .taken)
+    let at-test = c .before .before .before .before .before .before .before .before .before .before .before .before .before in omega (arith, at-test .loop-test .taken)
 
 loop-less : tie.Need-loop-less Inv-loop μ-loop
 loop-less c =
-    let at-before = c .before .before .before .before .before .before .before .before .before .before .before .before in
-    let at-test = at-before .before in omega (arith, at-test .loop-test .taken)
+    let at-test = c .before .before .before .before .before .before .before .before .before .before .before .before .before in omega (arith, at-test .loop-test .taken)
 
 loop-again : tie.Need-loop-again Inv-loop μ-loop
 loop-again c =
@@ -47,8 +45,7 @@ returns c =
 
 returns-2 : tie.Need-returns-2 Inv-loop μ-loop
 returns-2 c =
-    let at-before = c .before .before .before .before .before .before .before .before .before .before .before .before .before in
-    let at-read = at-before .before in
+    let at-read = c .before .before .before .before .before .before .before .before .before .before .before .before .before .before in
     let at-loop = at-read .before .before .before .before .before in
     input-left _ _ _ _ _ _ (joined-fed (at-loop .loop .inv .0) (at-read .read-once .ensures)) write-failed-left
 

@@ -26,8 +26,7 @@ returns-2 c =
 
 returns-3 : tie.Need-returns-3
 returns-3 c =
-    let at-before = c .before .before .before .before .before .before .before .before .before in
-    let at-count = at-before .before in
+    let at-count = c .before .before .before .before .before .before .before .before .before .before in
     let args = at-count .before .before .before .before .before .before .args in
     let back : toZ w64 (ofZ w64 (args .got)) ≡ args .got = search needs in
     let n : at-count .count .result ≡ clamped (args .got) (length (args .chunk .now)) = rw back at (at-count .count .ensures .1) in
@@ -35,8 +34,7 @@ returns-3 c =
 
 returns-4 : tie.Need-returns-4
 returns-4 c =
-    let at-before = c .before .before .before .before .before .before .before .before .before in
-    let at-count = at-before .before in
+    let at-count = c .before .before .before .before .before .before .before .before .before .before in
     let args = at-count .before .before .before .before .before .before .args in
     let back : toZ w64 (ofZ w64 (args .got)) ≡ args .got = search needs in
     let n : at-count .count .result ≡ clamped (args .got) (length (args .chunk .now)) = rw back at (at-count .count .ensures .1) in

@@ -10,8 +10,7 @@ use Rattle.bench.proofs.input.read_once.Tie as tie
 
 returns : tie.Need-returns
 returns c =
-    let at-before = c .before .before .before .before .before .before .before .before .before in
-    let at-read = at-before .before in
+    let at-read = c .before .before .before .before .before .before .before .before .before .before in
     let back : toZ w64 (ofZ w64 (at-read .read .result)) ≡ at-read .read .result = search needs in
     let long : length (at-read .read .last .1 .0) ≡ length (at-read .before .before .before .before .before .args .chunk .now) = search needs in
     record { got = at-read .read .result; moved = rw long (at-read .read .ensures); answered = rw back at (c .before .before .before .before .answer-read .ensures) }

@@ -5,7 +5,7 @@ use lib.Dec.{T, leb}
 use lib.Ieee.{binary32, fits, toBits}
 use lib.Ieee.Compare.{differs-from-itself}
 use Prim.Native.Nat.{_%_, _/_}
-use Rattle.scalar.proofs.BitsLaws.{equal-no-nan, fields, at-255, at-0, at-mid, split-0, split-mid}
+use Rattle.scalar.proofs.floats.BitsLaws.{equal-no-nan, fields, at-255, at-0, at-mid, split-0, split-mid}
 use Rattle.scalar.proofs.bits.decode.Statement.{statement}
 use Rattle.scalar.proofs.bits.decode.Tie as tie
 

@@ -1,5 +1,5 @@
 -- `scalar::bits::from_bits` meets its contract. Assumes nothing.
-use Rattle.scalar.proofs.SignLaws.{zero-by-zero, pattern-nan, pattern-plain}
+use Rattle.scalar.proofs.floats.SignLaws.{zero-by-zero, pattern-nan, pattern-plain}
 use mathlib.Core.Path.{sym, _∙_}
 use borrow.Author.Needs.{needs}
 use Rattle.scalar.proofs.bits.from_bits.Statement.{statement}

@@ -1,6 +1,6 @@
 -- `scalar::bits::pack` meets its contract. Assumes nothing.
-use Rattle.scalar.proofs.PackLaws.{pack-is, plain, plain-top}
-use Rattle.scalar.proofs.SignLaws.{pattern-plain}
+use Rattle.scalar.proofs.floats.PackLaws.{pack-is, plain, plain-top}
+use Rattle.scalar.proofs.floats.SignLaws.{pattern-plain}
 use lib.Ieee.{binary32, ofBits, units}
 use native.Mathlib.Nat.{add-comm, add-assoc, zero-add}
 use Prim.Native.Nat.{ℕ, _+_, _*_}

@@ -3,7 +3,7 @@ use mathlib.Core.Path.{sym, ap, subst}
 use lib.Dec.{T}
 use lib.Ieee.{binary32, toBits}
 use lib.Ieee.Compare.{differs-from-itself}
-use Rattle.scalar.proofs.BitsLaws.{equal-no-nan}
+use Rattle.scalar.proofs.floats.BitsLaws.{equal-no-nan}
 use borrow.Author.Needs.{needs}
 use Rattle.scalar.proofs.bits.to_bits.Statement.{statement}
 use Rattle.scalar.proofs.bits.to_bits.Tie as tie

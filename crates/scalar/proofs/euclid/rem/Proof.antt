@@ -7,8 +7,8 @@ use lib.Ieee.{binary32, round}
 use borrow.Author.Needs.{needs}
 use Rattle.scalar.specs.Parts.{Decoded}
 use Rattle.scalar.specs.declared.bits.Parts.{Parts}
-use Rattle.scalar.proofs.PartsLaws.{other}
-use Rattle.scalar.proofs.SignLaws.{zero-by-zero}
+use Rattle.scalar.proofs.floats.PartsLaws.{other}
+use Rattle.scalar.proofs.floats.SignLaws.{zero-by-zero}
 use Rattle.scalar.proofs.RestLaws.{rem-other, rem-by-nan, rem-by-inf, rem-by-zero, rem-smaller, rem-rest}
 use Rattle.scalar.proofs.euclid.rem.Statement.{statement}
 use Rattle.scalar.proofs.euclid.rem.Tie as tie

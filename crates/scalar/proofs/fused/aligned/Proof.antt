@@ -3,7 +3,7 @@ use mathlib.Core.Path.{sym, ap₂, _∙_, subst₂}
 use Prim.Native.Nat.{ℕ, _*_, _^_, _<_}
 use borrow.Author.Needs.{needs}
 use lib.Ieee.{binary32, sum}
-use Rattle.scalar.proofs.AlignLaws.{aligned-sum, aligned-fit}
+use Rattle.scalar.proofs.products.AlignLaws.{aligned-sum, aligned-fit}
 use Rattle.scalar.proofs.fused.aligned.Statement.{statement}
 use Rattle.scalar.proofs.fused.aligned.Tie as tie
 

@@ -4,8 +4,8 @@ use native.Mathlib.Omega.{arith}
 use borrow.Author.Needs.{needs}
 use Rattle.scalar.specs.Parts.{Decoded}
 use Rattle.scalar.specs.declared.bits.Parts.{Parts}
-use Rattle.scalar.proofs.PartsLaws.{other}
-use Rattle.scalar.proofs.FusedLaws.{plain-other, plain-zero, factor-full, factor-short, zeros-left}
+use Rattle.scalar.proofs.floats.PartsLaws.{other}
+use Rattle.scalar.proofs.products.FusedLaws.{plain-other, plain-zero, factor-full, factor-short, zeros-left}
 use Rattle.scalar.proofs.fused.factor_of.Statement.{statement}
 use Rattle.scalar.proofs.fused.factor_of.Tie as tie
 

@@ -6,8 +6,8 @@ use Rattle.scalar.specs.Parts.{Decoded}
 use Rattle.scalar.specs.FusedParts.{Factored}
 use Rattle.scalar.specs.declared.bits.Parts.{Parts}
 use Rattle.scalar.specs.declared.fused.Factor.{Factor}
-use Rattle.scalar.proofs.PartsLaws.{other}
-use Rattle.scalar.proofs.FusedLaws.{plain-first, plain-second, other-term, product-fits, terms, number-sum}
+use Rattle.scalar.proofs.floats.PartsLaws.{other}
+use Rattle.scalar.proofs.products.FusedLaws.{plain-first, plain-second, other-term, product-fits, terms, number-sum}
 use Rattle.scalar.proofs.fused.mul_add.Statement.{statement}
 use Rattle.scalar.proofs.fused.mul_add.Tie as tie
 

@@ -6,7 +6,7 @@ use Prim.Native.Nat.{_^_}
 use borrow.Author.Needs.{needs}
 use lib.Pow.{pow-pos}
 use lib.Ieee.{binary32, round, ofBits}
-use Rattle.laws.proofs.SumSigns.{sum-level, sum-sized}
+use Rattle.laws.proofs.operations.SumSigns.{sum-level, sum-sized}
 use Rattle.scalar.proofs.fused.sum.Statement.{statement}
 use Rattle.scalar.proofs.fused.sum.Tie as tie
 

@@ -2,7 +2,7 @@
 use mathlib.Core.Path.{refl}
 use native.Mathlib.Omega.{arith}
 use borrow.Author.Needs.{needs}
-use Rattle.scalar.proofs.IntegralBits.{fraction-bits-small, fraction-bits-other}
+use Rattle.scalar.proofs.whole_numbers.IntegralBits.{fraction-bits-small, fraction-bits-other}
 use Rattle.scalar.proofs.integral.fraction_bits.Statement.{statement}
 use Rattle.scalar.proofs.integral.fraction_bits.Tie as tie
 

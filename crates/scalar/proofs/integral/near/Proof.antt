@@ -4,7 +4,7 @@ use mathlib.Core.Bool.{true}
 use lib.Dec.{T}
 use lib.Ieee.{Float, binary32, fits, lt}
 use borrow.Author.Needs.{needs}
-use Rattle.scalar.proofs.IntegralSums.{whole, nearest-number, round-sum}
+use Rattle.scalar.proofs.whole_numbers.IntegralSums.{whole, nearest-number, round-sum}
 use Rattle.scalar.proofs.integral.near.Statement.{statement}
 use Rattle.scalar.proofs.integral.near.Tie as tie
 

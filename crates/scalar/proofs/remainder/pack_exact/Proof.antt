@@ -2,7 +2,7 @@
 use mathlib.Core.Path.{_∙_}
 use Prim.Native.Nat.{_<_}
 use native.Mathlib.Omega.{arith}
-use Rattle.scalar.proofs.RootPartsLaws.{zeros-in}
+use Rattle.scalar.proofs.roots.RootPartsLaws.{zeros-in}
 use Rattle.scalar.proofs.RestLaws.{repacked, repacks-none, repacks-full, repacks-low}
 use borrow.Author.Needs.{needs}
 use Rattle.scalar.proofs.remainder.pack_exact.Statement.{statement}

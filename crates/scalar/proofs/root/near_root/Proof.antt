@@ -6,7 +6,7 @@ use native.Mathlib.Omega.{arith}
 use borrow.Author.Needs.{needs}
 use Rattle.laws.specs.WholeRoot.{WholeRoot}
 use Rattle.roots.proofs.FirstRootLaws.{first-root-is}
-use Rattle.scalar.proofs.NewtonLaws.{first-step}
+use Rattle.scalar.proofs.roots.NewtonLaws.{first-step}
 use Rattle.scalar.proofs.root.near_root.Statement.{statement}
 use Rattle.scalar.proofs.root.near_root.Tie as tie
 

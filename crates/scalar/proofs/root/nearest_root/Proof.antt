@@ -2,7 +2,7 @@
 use Prim.Native.Nat.{_^_, _<_}
 use native.Mathlib.Omega.{arith}
 use borrow.Author.Needs.{needs}
-use Rattle.scalar.proofs.RootPartsLaws.{near-up, near-stays, root-small}
+use Rattle.scalar.proofs.roots.RootPartsLaws.{near-up, near-stays, root-small}
 use Rattle.scalar.proofs.root.nearest_root.Statement.{statement}
 use Rattle.scalar.proofs.root.nearest_root.Tie as tie
 

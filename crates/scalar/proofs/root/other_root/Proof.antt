@@ -7,8 +7,8 @@ use borrow.Author.Needs.{needs}
 use Rattle.scalar.specs.Parts.{Decoded}
 use Rattle.scalar.specs.RootParts.{Positive}
 use Rattle.scalar.specs.declared.bits.Parts.{Parts}
-use Rattle.scalar.proofs.SignLaws.{zero-by-zero}
-use Rattle.scalar.proofs.RootCases.{root-nan, root-inf, root-neg-inf, root-zero, root-negative, root-positive}
+use Rattle.scalar.proofs.floats.SignLaws.{zero-by-zero}
+use Rattle.scalar.proofs.roots.RootCases.{root-nan, root-inf, root-neg-inf, root-zero, root-negative, root-positive}
 use Rattle.scalar.proofs.root.other_root.Statement.{statement}
 use Rattle.scalar.proofs.root.other_root.Tie as tie
 

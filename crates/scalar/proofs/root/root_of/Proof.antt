@@ -1,7 +1,7 @@
 -- `scalar::root::root_of` meets its contract. Assumes nothing.
 use mathlib.Core.Path.{sym, _∙_}
 use borrow.Author.Needs.{needs}
-use Rattle.scalar.proofs.RootPartsLaws.{root-all}
+use Rattle.scalar.proofs.roots.RootPartsLaws.{root-all}
 use Rattle.scalar.proofs.root.root_of.Statement.{statement}
 use Rattle.scalar.proofs.root.root_of.Tie as tie
 

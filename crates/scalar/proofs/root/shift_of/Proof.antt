@@ -1,7 +1,7 @@
 -- `scalar::root::shift_of` meets its contract. Assumes nothing.
 use native.Mathlib.Omega.{arith}
 use borrow.Author.Needs.{needs}
-use Rattle.scalar.proofs.RootPartsLaws.{zeros-in, shift-is}
+use Rattle.scalar.proofs.roots.RootPartsLaws.{zeros-in, shift-is}
 use Rattle.scalar.proofs.root.shift_of.Statement.{statement}
 use Rattle.scalar.proofs.root.shift_of.Tie as tie
 

@@ -7,9 +7,9 @@ use lib.Dec.{T}
 use lib.Ieee.{binary32, toBits}
 use lib.Ieee.Compare.{differs-from-itself}
 use borrow.Author.Needs.{needs}
-use Rattle.scalar.proofs.BitsLaws.{equal-no-nan, Normal, normal}
-use Rattle.scalar.proofs.RootCases.{root-nan, root-positive}
-use Rattle.scalar.proofs.RootPartsLaws.{shift-normal}
+use Rattle.scalar.proofs.floats.BitsLaws.{equal-no-nan, Normal, normal}
+use Rattle.scalar.proofs.roots.RootCases.{root-nan, root-positive}
+use Rattle.scalar.proofs.roots.RootPartsLaws.{shift-normal}
 use Rattle.scalar.proofs.root.sqrt.Statement.{statement}
 use Rattle.scalar.proofs.root.sqrt.Tie as tie
 

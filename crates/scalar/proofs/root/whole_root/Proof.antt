@@ -2,7 +2,7 @@
 use native.Mathlib.Omega.{arith}
 use borrow.Author.Needs.{needs}
 use Rattle.scalar.specs.RootParts.{AboveRoot}
-use Rattle.scalar.proofs.NewtonLaws.{second-step, above-most, above-least, square-fits, last-below, last-is}
+use Rattle.scalar.proofs.roots.NewtonLaws.{second-step, above-most, above-least, square-fits, last-below, last-is}
 use Rattle.scalar.proofs.root.whole_root.Statement.{statement}
 use Rattle.scalar.proofs.root.whole_root.Tie as tie
 

@@ -4,7 +4,7 @@ use Prim.Native.Nat.{_+_, _-_, _*_, _/_, _%_, _^_}
 use native.Mathlib.Omega.{arith}
 use borrow.Author.Needs.{needs}
 use lib.Ieee.Nearest.{closest}
-use Rattle.scalar.proofs.WordLaws.{half-word, half-in, carried, quotient-fits}
+use Rattle.scalar.proofs.products.WordLaws.{half-word, half-in, carried, quotient-fits}
 use Rattle.scalar.proofs.round_pack.nearest.Statement.{statement}
 use Rattle.scalar.proofs.round_pack.nearest.Tie as tie
 

@@ -2,8 +2,8 @@
 use Prim.Native.Nat.{_<_}
 use native.Mathlib.Omega.{arith}
 use borrow.Author.Needs.{needs}
-use Rattle.laws.proofs.LeadingLaws.{leading-lt}
-use Rattle.scalar.proofs.WordLaws.{normalized-full, normalized-shifted}
+use Rattle.laws.proofs.numbers.LeadingLaws.{leading-lt}
+use Rattle.scalar.proofs.products.WordLaws.{normalized-full, normalized-shifted}
 use Rattle.scalar.proofs.round_pack.normalized.Statement.{statement}
 use Rattle.scalar.proofs.round_pack.normalized.Tie as tie
 

@@ -4,7 +4,7 @@ use Prim.Native.Nat.{_+_, _-_}
 use native.Mathlib.Omega.{arith}
 use borrow.Author.Needs.{needs}
 use lib.Count.{leadingZeros}
-use Rattle.scalar.proofs.RoundPackLaws.{Ulp, ulp-full, ulp-low, ulp-round, ulp-packs, ulp-inf, ulp-none, round-zero}
+use Rattle.scalar.proofs.products.RoundPackLaws.{Ulp, ulp-full, ulp-low, ulp-round, ulp-packs, ulp-inf, ulp-none, round-zero}
 use Rattle.scalar.proofs.round_pack.round_pack.Statement.{statement}
 use Rattle.scalar.proofs.round_pack.round_pack.Tie as tie
 

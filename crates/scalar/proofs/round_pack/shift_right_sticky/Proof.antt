@@ -5,8 +5,8 @@ use Prim.Native.Nat.{_^_, _<_}
 use native.Mathlib.Omega.{arith}
 use lib.Pow.{pow-pos, shr-le}
 use Rattle.laws.specs.Sticky.{sticky}
-use Rattle.laws.proofs.StickyLaws.{sticky-whole, sticky-lossy}
-use Rattle.scalar.proofs.WordLaws.{shift-within, truncated-word}
+use Rattle.laws.proofs.rounding.StickyLaws.{sticky-whole, sticky-lossy}
+use Rattle.scalar.proofs.products.WordLaws.{shift-within, truncated-word}
 use Rattle.scalar.proofs.round_pack.shift_right_sticky.Statement.{statement}
 use Rattle.scalar.proofs.round_pack.shift_right_sticky.Tie as tie
 

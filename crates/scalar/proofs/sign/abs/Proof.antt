@@ -1,5 +1,5 @@
 -- `scalar::sign::abs` meets its contract. Assumes nothing.
-use Rattle.scalar.proofs.SignLaws.{abs-neg, abs-pos}
+use Rattle.scalar.proofs.floats.SignLaws.{abs-neg, abs-pos}
 use mathlib.Core.Path.{sym, _∙_}
 use borrow.Author.Needs.{needs}
 use Rattle.scalar.proofs.sign.abs.Statement.{statement}

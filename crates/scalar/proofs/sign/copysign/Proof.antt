@@ -1,6 +1,6 @@
 -- `scalar::sign::copysign` meets its contract. Assumes nothing.
 use mathlib.Core.Bool.{true, false}
-use Rattle.scalar.proofs.SignLaws.{copy}
+use Rattle.scalar.proofs.floats.SignLaws.{copy}
 use lib.Ieee.{neg}
 use mathlib.Core.Path.{sym, ap, _∙_}
 use borrow.Author.Needs.{needs}

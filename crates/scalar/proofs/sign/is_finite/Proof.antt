@@ -3,7 +3,7 @@ use mathlib.Core.Path.{subst}
 use mathlib.Core.Logic.{inl, inr}
 use Rattle.scalar.specs.Parts.{Decoded}
 use Rattle.scalar.specs.declared.bits.Parts.{Parts}
-use Rattle.scalar.proofs.SignLaws.{other-infinite, parts-finite}
+use Rattle.scalar.proofs.floats.SignLaws.{other-infinite, parts-finite}
 use borrow.Author.Needs.{needs}
 use Rattle.scalar.proofs.sign.is_finite.Statement.{statement}
 use Rattle.scalar.proofs.sign.is_finite.Tie as tie

@@ -1,5 +1,5 @@
 -- `scalar::sign::is_nan` meets its contract. Assumes nothing.
-use Rattle.scalar.proofs.SignLaws.{nan-differs}
+use Rattle.scalar.proofs.floats.SignLaws.{nan-differs}
 use Rattle.scalar.proofs.sign.is_nan.Statement.{statement}
 use Rattle.scalar.proofs.sign.is_nan.Tie as tie
 

@@ -1,5 +1,5 @@
 -- `scalar::sign::signum` meets its contract. Assumes nothing.
-use Rattle.scalar.proofs.SignLaws.{sign-of-nan, sign-of-other}
+use Rattle.scalar.proofs.floats.SignLaws.{sign-of-nan, sign-of-other}
 use lib.Ieee.{ofBits}
 use mathlib.Core.Path.{_∙_}
 use borrow.Author.Needs.{needs}

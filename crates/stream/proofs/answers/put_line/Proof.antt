@@ -7,8 +7,7 @@ use Rattle.stream.proofs.answers.put_line.Tie as tie
 
 returns : tie.Need-returns
 returns c =
-    let at-before = c .before .before .before .before .before .before .before .before .before .before .before in
-    let start = at-before .before in
+    let start = c .before .before .before .before .before .before .before .before .before .before .before .before in
     answered-part (start .args .out .now) _ (answerFrom (start .args .six .now)) (start .args .at) (start .pre .0) (c .before .before .put-six .ensures)
 
 pub put-line-spec : {M : Type 1} → statement M

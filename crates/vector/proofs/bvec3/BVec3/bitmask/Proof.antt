@@ -1,7 +1,7 @@
 -- `vector::bvec3::BVec3::bitmask` meets its contract. Assumes nothing.
 use borrow.Author.Needs.{needs}
 use Rattle.vector.specs.Masks.{bitmask}
-use Rattle.vector.proofs.MaskLaws.{bits-sum}
+use Rattle.vector.proofs.meanings.MaskLaws.{bits-sum}
 use Rattle.vector.proofs.bvec3.BVec3.bitmask.Statement.{statement}
 use Rattle.vector.proofs.bvec3.BVec3.bitmask.Tie as tie
 

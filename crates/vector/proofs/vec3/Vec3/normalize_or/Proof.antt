@@ -1,6 +1,6 @@
 -- `vector::vec3::Vec3::normalize_or` meets its contract. Assumes nothing.
 use borrow.Author.Needs.{needs}
-use Rattle.vector.proofs.NormalizingLaws.{taken-is}
+use Rattle.vector.proofs.meanings.NormalizingLaws.{taken-is}
 use Rattle.vector.proofs.vec3.Vec3.normalize_or.Statement.{statement}
 use Rattle.vector.proofs.vec3.Vec3.normalize_or.Tie as tie
 

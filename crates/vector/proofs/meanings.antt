@@ -1,0 +1,10 @@
+-- What the definitions come to: masks, components, order, positions, clamps, signs, orthogonal vectors, and where there is no direction.
+pub mod MaskLaws
+pub mod IndexedLaws
+pub mod AnswerLaws
+pub mod OrderLaws
+pub mod ClampLaws
+pub mod PositionLaws
+pub mod SignsLaws
+pub mod NormalizingLaws
+pub mod OrthogonalLaws

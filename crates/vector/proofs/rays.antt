@@ -1,0 +1,8 @@
+-- Laws M and R: reflected and refracted directions.
+pub mod ReflectRoundings
+pub mod ReflectLaws
+pub mod RefractCertificates
+pub mod RefractNumbers
+pub mod RefractComponents
+pub mod RefractRoundings
+pub mod RefractLaws

@@ -1,0 +1,81 @@
+-- R: a direction refracted in another, by a ratio from 0.25 to 4 and where k is not below zero, has a direction. Assumes nothing.
+use mathlib.Core.Path.{_≡_, refl, sym, ap, subst}
+use mathlib.Core.Bool.{Bool, true, false, cond}
+use Prim.Native.Nat.{ℕ, _*_, _^_, _≤_}
+use lib.Dec.{T, lit≤}
+use lib.Pow.{pow-pos}
+use lib.Ieee.{Float, nan, inf, fin, binary32, fits, ofBits, lt, eq, le}
+use lib.Ieee.Bits.{is-true}
+use lib.Ieee.Scale.{finite}
+use Rattle.laws.specs.Exact.{negative, sizeIn}
+use Rattle.laws.proofs.values.ValueLaws.{Value}
+use Rattle.laws.proofs.values.SizeLaws.{value-of-size}
+use Rattle.laws.proofs.values.ValueOrderLaws.{le-sizes, not-below-zero, above-zero}
+use Rattle.vector.specs.declared.vec3.Vec3.{Vec3}
+use Rattle.vector.specs.Vectors.{zer, ZERO}
+use Rattle.vector.specs.Operators.{numberMul}
+use Rattle.vector.specs.Products.{dot}
+use Rattle.vector.specs.Optics.{refract, refractK}
+use Rattle.vector.specs.ExactVectors.{F32Vec, Direction}
+use Rattle.vector.specs.NumericLaws.{LawR, Refused7Never}
+use Rattle.vector.proofs.values.SignedVectors.{D, exactOf, reads-of}
+use Rattle.vector.proofs.rays.RefractRoundings.{gOf, bentOf, k-number, refracted, refracted-reads, refracted-norm}
+use Rattle.vector.proofs.values.VectorFits.{difference-vector}
+use Rattle.vector.proofs.units.AcceptedLaws.{never-refused}
+
+-- ---- 0, 1/4 and 4
+zero-is : Value binary32 zer false 0
+unfolding ofBits
+zero-is = (refl, refl)
+
+quarter-is : Value binary32 (ofBits binary32 0x3e800000) false (2 ^ 147)
+unfolding ofBits
+quarter-is = (refl, refl)
+
+four-is : Value binary32 (ofBits binary32 0x40800000) false (4 * D)
+unfolding ofBits
+four-is = (refl, refl)
+
+between-finite : (u : Float) → T (le (ofBits binary32 0x3e800000) u) → T (le u (ofBits binary32 0x40800000)) → T (finite u)
+unfolding le lt eq ofBits
+between-finite nan l h = absurd h
+between-finite (inf true) l h = absurd l
+between-finite (inf false) l h = absurd h
+between-finite (fin s m e) l h = tt
+
+-- ---- where k is not below zero
+bent-is : (a b : Vec3) (u : Float) → T (le zer (refractK a b u)) → bentOf a b u ≡ refract a b u
+unfolding refract refractK
+bent-is a b u t = sym (ap (λ (c : Bool). cond c (bentOf a b u) ZERO) (is-true (le zer (refractK a b u)) t))
+
+bent-values : (a b : Vec3) (u : Float) → F32Vec (bentOf a b u)
+bent-values a b u = difference-vector (numberMul u a) (numberMul (gOf u (dot b a)) b)
+
+module _ (a b : Vec3) (u : Float) (da : Direction a) (db : Direction b) (fit : T (fits binary32 u)) (low : T (le (ofBits binary32 0x3e800000) u)) (high : T (le u (ofBits binary32 0x40800000)))
+    (free : T (le zer (refractK a b u))) where
+  H : ℕ
+  H = sizeIn binary32 u
+
+  u-finite : Value binary32 u (negative u) H
+  unfolding H
+  u-finite = value-of-size binary32 u fit (between-finite u low high)
+
+  u-is : Value binary32 u false H
+  u-is = subst (λ (s : Bool). Value binary32 u s H) (above-zero u (ofBits binary32 0x3e800000) (negative u) H (2 ^ 147) D (pow-pos 149) (pow-pos 147) quarter-is u-finite low) u-finite
+
+  u-le : H ≤ 4 * D
+  u-le = le-sizes u (ofBits binary32 0x40800000) H (4 * D) D (pow-pos 149) u-is four-is high
+
+  refracted-direction : Refused7Never (refract a b u)
+  refracted-direction =
+      let ra = reads-of a (da .values) (da .numbers) in
+      let rb = reads-of b (db .values) (db .numbers) in
+      let k = k-number a b (exactOf a) (exactOf b) ra rb (da .near) (db .near) u H u-is u-le in
+      let nk = not-below-zero (refractK a b u) zer (k .sign) (k .size) D (pow-pos 149) zero-is (k .has) free in
+      subst (λ (v : Vec3). Refused7Never v) (bent-is a b u free)
+      (never-refused (bentOf a b u) (refracted a b (exactOf a) (exactOf b) ra rb (da .near) (db .near) u H u-is u-le (k .sign) (k .size) (k .has) nk) 4800 (lit≤ tt)
+      (refracted-reads a b (exactOf a) (exactOf b) ra rb (da .near) (db .near) u H u-is u-le (k .sign) (k .size) (k .has) nk)
+      (refracted-norm a b (exactOf a) (exactOf b) ra rb (da .near) (db .near) u H u-is u-le (k .sign) (k .size) (k .has) nk) (bent-values a b u))
+
+pub law-r : LawR
+law-r a b u da db fit low high free = refracted-direction a b u da db fit low high free
