@@ -1,7 +1,6 @@
 -- What the definitions come to: masks, components, order, positions, clamps, signs, orthogonal vectors, and where there is no direction.
 pub mod MaskLaws
 pub mod IndexedLaws
-pub mod AnswerLaws
 pub mod OrderLaws
 pub mod ClampLaws
 pub mod PositionLaws

@@ -6,8 +6,8 @@ pub record Answer (A : Type 0) : Type 0 where
   pub refusal : ℕ
   pub value : A
 
-abbrev pub done : {A : Type 0} → A → Answer A
-done v = record { refusal = 0; value = v }
+abbrev pub given : {A : Type 0} → A → Answer A
+given v = record { refusal = 0; value = v }
 
 abbrev pub refused : {A : Type 0} → ℕ → A → Answer A
 refused n zero = record { refusal = n; value = zero }

@@ -1,26 +1,13 @@
--- What the text of each function in src/f32/vec3.rs asserts by glam_assert, worked out in f32 from its arguments (document 01, "The plain sheet":
+-- What the text of each function of src/f32/vec3.rs that a command calls asserts by glam_assert, worked out in f32 from its arguments (document 01, "The plain sheet":
 -- "A Rust function's glam_assert condition is all that its text asserts by that macro"). The macro is off, so that no answer depends on these.
 use mathlib.Core.Bool.{Bool, _&&_}
-use lib.Ieee.{Float, lt, le, ne}
+use lib.Ieee.{Float, lt, le}
 use lib.Ieee.Scale.{finite}
 use Rattle.vector.specs.declared.vec3.Vec3.{Vec3}
-use Rattle.vector.specs.declared.vec4.Vec4.{Vec4}
 use Rattle.vector.specs.Vectors.{zer}
 use Rattle.vector.specs.Products.{lengthSquared}
-use Rattle.vector.specs.Normalizing.{normalize, isNormalized}
+use Rattle.vector.specs.Normalizing.{isNormalized}
 use Rattle.vector.specs.Projections.{otherLenSqRcp}
-
--- glam_assert!(v.w != 0.0)
-unfoldable pub assertsFromHomogeneous : Vec4 → Bool
-assertsFromHomogeneous v = ne (v .w) zer
-
--- glam_assert!(min.cmple(max).all())
-unfoldable pub assertsClamp : Vec3 → Vec3 → Vec3 → Bool
-assertsClamp a min max = le (min .x) (max .x) && le (min .y) (max .y) && le (min .z) (max .z)
-
--- glam_assert!(normalized.is_finite())
-unfoldable pub assertsNormalize : Vec3 → Bool
-assertsNormalize a = let n = normalize a in finite (n .x) && finite (n .y) && finite (n .z)
 
 -- glam_assert!(other_len_sq_rcp.is_finite())
 unfoldable pub assertsProjectOnto : Vec3 → Vec3 → Bool
@@ -42,14 +29,6 @@ assertsRejectFromNormalized a b = assertsProjectOntoNormalized a b
 unfoldable pub assertsClampLength : Vec3 → Float → Float → Bool
 assertsClampLength a min max = le zer min && le min max
 
--- glam_assert!(0.0 <= max)
-unfoldable pub assertsClampLengthMax : Vec3 → Float → Bool
-assertsClampLengthMax a max = le zer max
-
--- glam_assert!(0.0 <= min)
-unfoldable pub assertsClampLengthMin : Vec3 → Float → Bool
-assertsClampLengthMin a min = le zer min
-
 -- is_non_zero: self.length_squared() > 0.0
 unfoldable pub nonZero : Vec3 → Bool
 nonZero a = lt zer (lengthSquared a)
@@ -65,10 +44,6 @@ assertsRefract a normal = isNormalized a && isNormalized normal
 -- glam_assert!(self.is_non_zero()); glam_assert!(rhs.is_non_zero())
 unfoldable pub assertsAngleBetween : Vec3 → Vec3 → Bool
 assertsAngleBetween a b = nonZero a && nonZero b
-
--- glam_assert!(self.is_normalized())
-unfoldable pub assertsAnyOrthonormalVector : Vec3 → Bool
-assertsAnyOrthonormalVector a = isNormalized a
 
 -- glam_assert!(self.is_normalized())
 unfoldable pub assertsAnyOrthonormalPair : Vec3 → Bool

@@ -4,7 +4,7 @@ use mathlib.Core.Bool as Bools
 use mathlib.Core.Bool.{Bool, false, cond, _&&_, _||_}
 use Rattle.vector.specs.declared.bvec3.BVec3.{BVec3}
 use Rattle.vector.specs.declared.bvec3.Tested.{Tested}
-use Rattle.vector.specs.Answers.{Answer, done}
+use Rattle.vector.specs.Answers.{Answer, given}
 use Rattle.vector.specs.Indexed.{outOfRange, indexed}
 
 abbrev pub mask : Bool → Bool → Bool → BVec3
@@ -20,7 +20,7 @@ bitmask m = bit (m .x) + bit (m .y) * 2 + bit (m .z) * 4
 
 -- the paper's number and value for each case of the answer
 abbrev pub answerOf : Tested → Answer Bool
-answerOf (Tested.Bit b) = done b
+answerOf (Tested.Bit b) = given b
 answerOf Tested.OutOfRange = outOfRange false
 
 unfoldable pub test : BVec3 → ℕ → Answer Bool

@@ -10,7 +10,7 @@ use Rattle.vector.specs.declared.vec3.Vec3.{Vec3}
 use Rattle.vector.specs.declared.vec3.normalizing.Normalized.{Normalized}
 use Rattle.vector.specs.declared.vec3.normalizing.Normalized.the-variants.{Unit, Nothing}
 use Rattle.vector.specs.Vectors.{ZERO}
-use Rattle.vector.specs.Answers.{done, refused}
+use Rattle.vector.specs.Answers.{given, refused}
 use Rattle.vector.specs.Operators.{mulNumber}
 use Rattle.vector.specs.Products.{length, lengthSquared, lengthRecip}
 use Rattle.vector.specs.Normalizing.{usable, answerOf, tryNormalize, normalizeOr}
@@ -40,7 +40,7 @@ module _ (a : Vec3) where
   unfolding unitOrNone
   shown e = (e, ap answerOf (e ∙ answer-is) ∙ go (zeroInfiniteOrNan (lengthSquared a)))
     where
-      go : (none : Bool) → answerOf (unless none) ≡ cond none (refused 7 ZERO) (done (mulNumber a (lengthRecip a)))
+      go : (none : Bool) → answerOf (unless none) ≡ cond none (refused 7 ZERO) (given (mulNumber a (lengthRecip a)))
       go true = refl
       go false = refl
 
@@ -52,15 +52,15 @@ module _ (a : Vec3) where
   }
 
 -- ---- the vector of an answer, or the fallback
-abbrev pub taken : Normalized → Vec3 → Vec3
-taken (Unit u) v = u
-taken Nothing v = v
+abbrev pub unitOr : Normalized → Vec3 → Vec3
+unitOr (Unit u) v = u
+unitOr Nothing v = v
 
 -- where the answer of `try_normalize` is r
-pub taken-is : {r s : Normalized} (a v : Vec3) → s ≡ tryNormalize a → s ≡ r → taken r v ≡ normalizeOr a v
+pub unit-or-is : {r s : Normalized} (a v : Vec3) → s ≡ tryNormalize a → s ≡ r → unitOr r v ≡ normalizeOr a v
 unfolding tryNormalize normalizeOr
-taken-is a v e h = ap (λ (s : Normalized). taken s v) (sym h ∙ e) ∙ go (usable (lengthRecip a))
+unit-or-is a v e h = ap (λ (s : Normalized). unitOr s v) (sym h ∙ e) ∙ go (usable (lengthRecip a))
   where
-    go : (b : Bool) → taken (cond b (Unit (mulNumber a (lengthRecip a))) Nothing) v ≡ cond b (mulNumber a (lengthRecip a)) v
+    go : (b : Bool) → unitOr (cond b (Unit (mulNumber a (lengthRecip a))) Nothing) v ≡ cond b (mulNumber a (lengthRecip a)) v
     go true = refl
     go false = refl

@@ -73,7 +73,7 @@ never-zero a v h n =
 -- ---- finite, and at a right angle
 
 -- negation negates the exact value
-pub exact-neg : (f : Format) (x : Float) → exact f (neg x) ≡ negℤ (exact f x)
+exact-neg : (f : Format) (x : Float) → exact f (neg x) ≡ negℤ (exact f x)
 unfolding neg negative sizeIn
 exact-neg f nan = refl
 exact-neg f (inf true) = refl

@@ -2,7 +2,7 @@
 -- agree where none is. Assumes nothing.
 use mathlib.Core.Path.{_≡_, sym, ap, _∙_}
 use mathlib.Core.Bool.{Bool, true, false, not}
-use Prim.Native.Nat.{ℕ, _+_, _*_, _/_, _%_, _≤_}
+use Prim.Native.Nat.{ℕ, _+_, _*_, _≤_}
 use native.Mathlib.Omega.{arith}
 use lib.Dec.{T, lit≤}
 use lib.Ieee as Ieee
@@ -24,7 +24,7 @@ bit-small : (b : Bool) → bit b ≤ 1
 bit-small true = lit≤ tt
 bit-small false = lit≤ tt
 
-pub mask-bit : (m : BVec3) (i : ℕ) → i ≤ 2 → bitAt (bitmask m) i ≡ bit (test m i .value)
+mask-bit : (m : BVec3) (i : ℕ) → i ≤ 2 → bitAt (bitmask m) i ≡ bit (test m i .value)
 unfolding bitmask test indexed
 mask-bit m =
     let x = bit-small (m .x) in
@@ -32,7 +32,7 @@ mask-bit m =
     let z = bit-small (m .z) in
     by-index (λ (i : ℕ). bitAt (bitmask m) i ≡ bit (test m i .value)) (omega arith) (omega arith) (omega arith)
 
-pub same-bitmask : (m n : BVec3) → ((i : ℕ) → i ≤ 2 → bitAt (bitmask m) i ≡ bitAt (bitmask n) i) → bitmask m ≡ bitmask n
+same-bitmask : (m n : BVec3) → ((i : ℕ) → i ≤ 2 → bitAt (bitmask m) i ≡ bitAt (bitmask n) i) → bitmask m ≡ bitmask n
 unfolding bitmask test indexed
 same-bitmask m n e =
     let same : (i : ℕ) → i ≤ 2 → bit (test m i .value) ≡ bit (test n i .value) = λ i h. sym (mask-bit m i h) ∙ e i h ∙ mask-bit n i h in

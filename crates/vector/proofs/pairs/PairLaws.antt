@@ -16,7 +16,7 @@ use Rattle.vector.specs.Normalizing.{usable, tryNormalize}
 use Rattle.vector.specs.Orthogonal.{scaleOf, mixOf, firstOf, secondOf, anyOrthonormalPair}
 use Rattle.vector.specs.ExactVectors.{F32Vec, Direction, NearlyOrthogonal}
 use Rattle.vector.specs.NumericLaws.{HasDirection, OrthogonalDirections, LawP}
-use Rattle.vector.proofs.meanings.NormalizingLaws.{taken}
+use Rattle.vector.proofs.meanings.NormalizingLaws.{unitOr}
 use Rattle.vector.proofs.values.SignedVectors.{D, E, Exact, Reads, Dot, exactOf, reads-of}
 use Rattle.vector.proofs.values.ExactDots.{dot-size}
 use Rattle.vector.proofs.pairs.PairDots.{first, second, first-reads, second-reads, first-norm, second-norm}
@@ -27,9 +27,9 @@ use Rattle.vector.proofs.units.AcceptedLaws.{accepted, about-one}
 -- ---- a direction is the vector times the reciprocal of its length
 direction-is : (a d : Vec3) → tryNormalize a ≡ Unit d → unitOf a ≡ d
 unfolding tryNormalize
-direction-is a d e = sym (go (usable (lengthRecip a))) ∙ ap (λ (r : Normalized). taken r (unitOf a)) e
+direction-is a d e = sym (go (usable (lengthRecip a))) ∙ ap (λ (r : Normalized). unitOr r (unitOf a)) e
   where
-    go : (b : Bool) → taken (cond b (Unit (unitOf a)) Nothing) (unitOf a) ≡ unitOf a
+    go : (b : Bool) → unitOr (cond b (Unit (unitOf a)) Nothing) (unitOf a) ≡ unitOf a
     go true = refl
     go false = refl
 

@@ -24,7 +24,7 @@ use Rattle.vector.specs.Vectors.{one}
 use Rattle.vector.specs.Orthogonal.{scaleOf, mixOf, firstOf, secondOf}
 
 -- ---- a sign
-pub signum-is : (z : Float) (s : Bool) (n : ℕ) → Value binary32 z s n → Value binary32 (signum z) s D
+signum-is : (z : Float) (s : Bool) (n : ℕ) → Value binary32 z s n → Value binary32 (signum z) s D
 unfolding signum copysign abs neg negative ofBits
 signum-is nan s n h = absurd h
 signum-is (inf t) s n h = absurd h

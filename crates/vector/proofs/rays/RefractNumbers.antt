@@ -5,7 +5,6 @@ use mathlib.Core.Bool.{Bool, true, false, not, cond}
 use Prim.Native.Nat.{ℕ, _+_, _*_, _≤_, _<_}
 use native.Mathlib.Nat.{mul-le-mul-left, le-of-mul-le-mul-right, le-trans, le-of-eq, add-mul, zero-mul, mul-zero, mul-assoc, mul-le-mul, mul-le-mul-right}
 use native.Mathlib.Omega.{arith}
-use lib.Ieee as Ieee
 use Rattle.laws.proofs.solvers.Ring.{var, lit, _⊕_, _⊗_}
 use Rattle.laws.proofs.solvers.RingNat.{ring}
 use Rattle.laws.specs.Within.{Within}

@@ -1,6 +1,6 @@
 -- `vector::vec3::Vec3::select` meets its contract. Assumes nothing.
 use mathlib.Core.Path.{_≡_}
-use mathlib.Core.Logic.{_⊎_, inl, inr}
+use mathlib.Core.Logic.{inl, inr}
 use mathlib.Core.Bool.{cond}
 use Rattle.vector.specs.Elements.{select}
 use Rattle.vector.proofs.vec3.Vec3.select.Statement.{statement}
