@@ -3,11 +3,8 @@ use borrow.Author.Needs.{needs}
 use Rattle.vector.proofs.bvec3.BVec3.splat.Statement.{statement}
 use Rattle.vector.proofs.bvec3.BVec3.splat.Tie as tie
 
-new-requires : tie.Need-new-requires
-new-requires c κs = search needs
-
 returns : tie.Need-returns
 returns c = c .new .ensures
 
 pub splat-spec : {M : Type 1} → statement M
-splat-spec = tie.close (tie.spec new-requires returns)
+splat-spec = tie.close (tie.spec (λ c κs. search needs) returns)

@@ -7,18 +7,6 @@ use borrow.Author.Needs.{needs}
 use Rattle.vector.proofs.vec3.Vec3.abs_diff_eq.Statement.{statement}
 use Rattle.vector.proofs.vec3.Vec3.abs_diff_eq.Tie as tie
 
-sub-requires : tie.Need-sub-requires
-sub-requires c κs = search needs
-
-abs-requires : tie.Need-abs-requires
-abs-requires c κs = search needs
-
-abs-requires-2 : tie.Need-abs-requires-2
-abs-requires-2 c κs = search needs
-
-abs-requires-3 : tie.Need-abs-requires-3
-abs-requires-3 c κs = search needs
-
 returns : tie.Need-returns
 unfolding absDiffEq
 returns c =
@@ -39,4 +27,4 @@ returns-2 c =
 
 pub abs-diff-eq-spec : {M : Type 1} → statement M
 abs-diff-eq-spec =
-    tie.close (tie.spec sub-requires abs-requires abs-requires-2 abs-requires-3 returns returns-2)
+    tie.close (tie.spec (λ c κs. search needs) (λ c κs. search needs) (λ c κs. search needs) (λ c κs. search needs) returns returns-2)

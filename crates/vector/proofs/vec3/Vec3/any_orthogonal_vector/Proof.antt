@@ -4,12 +4,6 @@ use borrow.Author.Needs.{needs}
 use Rattle.vector.proofs.vec3.Vec3.any_orthogonal_vector.Statement.{statement}
 use Rattle.vector.proofs.vec3.Vec3.any_orthogonal_vector.Tie as tie
 
-abs-requires : tie.Need-abs-requires
-abs-requires c κs = search needs
-
-abs-requires-2 : tie.Need-abs-requires-2
-abs-requires-2 c κs = search needs
-
 returns : tie.Need-returns
 unfolding anyOrthogonalVector
 returns c = simp (← c .before .before .before .abs .ensures, ← c .before .before .abs2 .ensures, c .before .if1 .taken)
@@ -19,4 +13,4 @@ unfolding anyOrthogonalVector
 returns-2 c = simp (← c .before .before .before .abs .ensures, ← c .before .before .abs2 .ensures, c .before .if1 .left)
 
 pub any-orthogonal-vector-spec : {M : Type 1} → statement M
-any-orthogonal-vector-spec = tie.close (tie.spec abs-requires abs-requires-2 returns returns-2)
+any-orthogonal-vector-spec = tie.close (tie.spec (λ c κs. search needs) (λ c κs. search needs) returns returns-2)

@@ -4,15 +4,9 @@ use Rattle.vector.specs.Elements.{clamp}
 use Rattle.vector.proofs.vec3.Vec3.clamp.Statement.{statement}
 use Rattle.vector.proofs.vec3.Vec3.clamp.Tie as tie
 
-max-requires : tie.Need-max-requires
-max-requires c κs = search needs
-
-min-requires : tie.Need-min-requires
-min-requires c κs = search needs
-
 returns : tie.Need-returns
 unfolding clamp
 returns c = simp (c .before .max .ensures, c .min .ensures)
 
 pub clamp-spec : {M : Type 1} → statement M
-clamp-spec = tie.close (tie.spec max-requires min-requires returns)
+clamp-spec = tie.close (tie.spec (λ c κs. search needs) (λ c κs. search needs) returns)

@@ -4,27 +4,6 @@ use borrow.Author.Needs.{needs}
 use Rattle.vector.proofs.vec3.Vec3.clamp_length.Statement.{statement}
 use Rattle.vector.proofs.vec3.Vec3.clamp_length.Tie as tie
 
-length-squared-requires : tie.Need-length-squared-requires
-length-squared-requires c κs = search needs
-
-sqrt-requires : tie.Need-sqrt-requires
-sqrt-requires c κs = search needs
-
-div-f32-requires : tie.Need-div-f32-requires
-div-f32-requires c κs = search needs
-
-f32-mul-requires : tie.Need-f32-mul-requires
-f32-mul-requires c κs = search needs
-
-sqrt-requires-2 : tie.Need-sqrt-requires-2
-sqrt-requires-2 c κs = search needs
-
-div-f32-requires-2 : tie.Need-div-f32-requires-2
-div-f32-requires-2 c κs = search needs
-
-f32-mul-requires-2 : tie.Need-f32-mul-requires-2
-f32-mul-requires-2 c κs = search needs
-
 returns : tie.Need-returns
 unfolding clampLength
 returns c =
@@ -56,13 +35,13 @@ pub clamp-length-spec : {M : Type 1} → statement M
 clamp-length-spec =
     tie.close
     (tie.spec
-    length-squared-requires
-    sqrt-requires
-    div-f32-requires
-    f32-mul-requires
-    sqrt-requires-2
-    div-f32-requires-2
-    f32-mul-requires-2
+    (λ c κs. search needs)
+    (λ c κs. search needs)
+    (λ c κs. search needs)
+    (λ c κs. search needs)
+    (λ c κs. search needs)
+    (λ c κs. search needs)
+    (λ c κs. search needs)
     returns
     returns-2
     returns-3)

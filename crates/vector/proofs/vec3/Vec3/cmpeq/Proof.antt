@@ -4,12 +4,9 @@ use Rattle.vector.specs.Comparisons.{cmpeq}
 use Rattle.vector.proofs.vec3.Vec3.cmpeq.Statement.{statement}
 use Rattle.vector.proofs.vec3.Vec3.cmpeq.Tie as tie
 
-new-requires : tie.Need-new-requires
-new-requires c κs = search needs
-
 returns : tie.Need-returns
 unfolding cmpeq
 returns c = c .new .ensures
 
 pub cmpeq-spec : {M : Type 1} → statement M
-cmpeq-spec = tie.close (tie.spec new-requires returns)
+cmpeq-spec = tie.close (tie.spec (λ c κs. search needs) returns)

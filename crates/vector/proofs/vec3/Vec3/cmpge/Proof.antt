@@ -4,12 +4,9 @@ use Rattle.vector.specs.Comparisons.{cmpge}
 use Rattle.vector.proofs.vec3.Vec3.cmpge.Statement.{statement}
 use Rattle.vector.proofs.vec3.Vec3.cmpge.Tie as tie
 
-new-requires : tie.Need-new-requires
-new-requires c κs = search needs
-
 returns : tie.Need-returns
 unfolding cmpge
 returns c = c .new .ensures
 
 pub cmpge-spec : {M : Type 1} → statement M
-cmpge-spec = tie.close (tie.spec new-requires returns)
+cmpge-spec = tie.close (tie.spec (λ c κs. search needs) returns)

@@ -4,12 +4,9 @@ use Rattle.vector.specs.Comparisons.{cmplt}
 use Rattle.vector.proofs.vec3.Vec3.cmplt.Statement.{statement}
 use Rattle.vector.proofs.vec3.Vec3.cmplt.Tie as tie
 
-new-requires : tie.Need-new-requires
-new-requires c κs = search needs
-
 returns : tie.Need-returns
 unfolding cmplt
 returns c = c .new .ensures
 
 pub cmplt-spec : {M : Type 1} → statement M
-cmplt-spec = tie.close (tie.spec new-requires returns)
+cmplt-spec = tie.close (tie.spec (λ c κs. search needs) returns)

@@ -4,24 +4,6 @@ use Rattle.vector.specs.Signs.{copysignBits}
 use Rattle.vector.proofs.vec3.Vec3.copysign_bits.Statement.{statement}
 use Rattle.vector.proofs.vec3.Vec3.copysign_bits.Tie as tie
 
-copysign-bits-requires : tie.Need-copysign-bits-requires
-copysign-bits-requires c κs = search needs
-
-from-bits-requires : tie.Need-from-bits-requires
-from-bits-requires c κs = search needs
-
-copysign-bits-requires-2 : tie.Need-copysign-bits-requires-2
-copysign-bits-requires-2 c κs = search needs
-
-from-bits-requires-2 : tie.Need-from-bits-requires-2
-from-bits-requires-2 c κs = search needs
-
-copysign-bits-requires-3 : tie.Need-copysign-bits-requires-3
-copysign-bits-requires-3 c κs = search needs
-
-from-bits-requires-3 : tie.Need-from-bits-requires-3
-from-bits-requires-3 c κs = search needs
-
 returns : tie.Need-returns
 unfolding copysignBits
 returns c =
@@ -38,10 +20,10 @@ pub copysign-bits-spec : {M : Type 1} → statement M
 copysign-bits-spec =
     tie.close
     (tie.spec
-    copysign-bits-requires
-    from-bits-requires
-    copysign-bits-requires-2
-    from-bits-requires-2
-    copysign-bits-requires-3
-    from-bits-requires-3
+    (λ c κs. search needs)
+    (λ c κs. search needs)
+    (λ c κs. search needs)
+    (λ c κs. search needs)
+    (λ c κs. search needs)
+    (λ c κs. search needs)
     returns)

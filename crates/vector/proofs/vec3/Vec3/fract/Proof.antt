@@ -4,15 +4,9 @@ use borrow.Author.Needs.{needs}
 use Rattle.vector.proofs.vec3.Vec3.fract.Statement.{statement}
 use Rattle.vector.proofs.vec3.Vec3.fract.Tie as tie
 
-trunc-requires : tie.Need-trunc-requires
-trunc-requires c κs = search needs
-
-sub-requires : tie.Need-sub-requires
-sub-requires c κs = search needs
-
 returns : tie.Need-returns
 unfolding fract
 returns c = simp (c .before .trunc .ensures, c .sub .ensures)
 
 pub fract-spec : {M : Type 1} → statement M
-fract-spec = tie.close (tie.spec trunc-requires sub-requires returns)
+fract-spec = tie.close (tie.spec (λ c κs. search needs) (λ c κs. search needs) returns)

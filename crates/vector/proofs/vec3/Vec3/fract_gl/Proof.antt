@@ -4,15 +4,9 @@ use borrow.Author.Needs.{needs}
 use Rattle.vector.proofs.vec3.Vec3.fract_gl.Statement.{statement}
 use Rattle.vector.proofs.vec3.Vec3.fract_gl.Tie as tie
 
-floor-requires : tie.Need-floor-requires
-floor-requires c κs = search needs
-
-sub-requires : tie.Need-sub-requires
-sub-requires c κs = search needs
-
 returns : tie.Need-returns
 unfolding fractGl
 returns c = simp (c .before .floor .ensures, c .sub .ensures)
 
 pub fract-gl-spec : {M : Type 1} → statement M
-fract-gl-spec = tie.close (tie.spec floor-requires sub-requires returns)
+fract-gl-spec = tie.close (tie.spec (λ c κs. search needs) (λ c κs. search needs) returns)

@@ -8,15 +8,6 @@ use Rattle.vector.specs.Comparisons.{isFinite}
 use Rattle.vector.proofs.vec3.Vec3.is_finite.Statement.{statement}
 use Rattle.vector.proofs.vec3.Vec3.is_finite.Tie as tie
 
-is-finite-requires : tie.Need-is-finite-requires
-is-finite-requires c κs = search needs
-
-is-finite-requires-2 : tie.Need-is-finite-requires-2
-is-finite-requires-2 c κs = search needs
-
-is-finite-requires-3 : tie.Need-is-finite-requires-3
-is-finite-requires-3 c κs = search needs
-
 -- the two first tests
 both : (c : tie.Joined1) → c .if1 .if2 ≡ finite (c .before .before .args .self .x) && finite (c .before .before .args .self .y)
 both c =
@@ -36,4 +27,4 @@ returns-2 c = simp (← both (c .before), c .if2 .left)
 pub is-finite-spec : {M : Type 1} → statement M
 is-finite-spec =
     tie.close
-    (tie.spec is-finite-requires is-finite-requires-2 is-finite-requires-3 returns returns-2)
+    (tie.spec (λ c κs. search needs) (λ c κs. search needs) (λ c κs. search needs) returns returns-2)

@@ -8,15 +8,6 @@ use Rattle.vector.specs.Comparisons.{isNan}
 use Rattle.vector.proofs.vec3.Vec3.is_nan.Statement.{statement}
 use Rattle.vector.proofs.vec3.Vec3.is_nan.Tie as tie
 
-is-nan-requires : tie.Need-is-nan-requires
-is-nan-requires c κs = search needs
-
-is-nan-requires-2 : tie.Need-is-nan-requires-2
-is-nan-requires-2 c κs = search needs
-
-is-nan-requires-3 : tie.Need-is-nan-requires-3
-is-nan-requires-3 c κs = search needs
-
 -- the two first tests
 both : (c : tie.Joined1) → c .if1 .if2 ≡ Ieee.isNan (c .before .before .args .self .x) || Ieee.isNan (c .before .before .args .self .y)
 both c =
@@ -36,4 +27,4 @@ returns-2 c = simp (← both (c .before .before), c .before .if2 .left, ← c .i
 pub is-nan-spec : {M : Type 1} → statement M
 is-nan-spec =
     tie.close
-    (tie.spec is-nan-requires is-nan-requires-2 is-nan-requires-3 returns returns-2)
+    (tie.spec (λ c κs. search needs) (λ c κs. search needs) (λ c κs. search needs) returns returns-2)

@@ -4,24 +4,9 @@ use Rattle.vector.specs.Signs.{isNegativeBitmask}
 use Rattle.vector.proofs.vec3.Vec3.is_negative_bitmask.Statement.{statement}
 use Rattle.vector.proofs.vec3.Vec3.is_negative_bitmask.Tie as tie
 
-is-sign-negative-requires : tie.Need-is-sign-negative-requires
-is-sign-negative-requires c κs = search needs
-
-is-sign-negative-requires-2 : tie.Need-is-sign-negative-requires-2
-is-sign-negative-requires-2 c κs = search needs
-
-is-sign-negative-requires-3 : tie.Need-is-sign-negative-requires-3
-is-sign-negative-requires-3 c κs = search needs
-
-new-requires : tie.Need-new-requires
-new-requires c κs = search needs
-
-bitmask-requires : tie.Need-bitmask-requires
-bitmask-requires c κs = search needs
-
 returns : tie.Need-returns
 unfolding isNegativeBitmask
 returns c = simp (c .before .before .before .before .is-sign-negative .ensures, c .before .before .before .is-sign-negative2 .ensures, c .before .before .is-sign-negative3 .ensures, c .before .new .ensures, c .bitmask .ensures)
 
 pub is-negative-bitmask-spec : {M : Type 1} → statement M
-is-negative-bitmask-spec = tie.close (tie.spec is-sign-negative-requires is-sign-negative-requires-2 is-sign-negative-requires-3 new-requires bitmask-requires returns)
+is-negative-bitmask-spec = tie.close (tie.spec (λ c κs. search needs) (λ c κs. search needs) (λ c κs. search needs) (λ c κs. search needs) (λ c κs. search needs) returns)

@@ -4,15 +4,9 @@ use Rattle.vector.specs.Products.{length}
 use Rattle.vector.proofs.vec3.Vec3.length.Statement.{statement}
 use Rattle.vector.proofs.vec3.Vec3.length.Tie as tie
 
-dot-requires : tie.Need-dot-requires
-dot-requires c κs = search needs
-
-sqrt-requires : tie.Need-sqrt-requires
-sqrt-requires c κs = search needs
-
 returns : tie.Need-returns
 unfolding length
 returns c = simp (c .before .dot .ensures, c .sqrt .ensures)
 
 pub length-spec : {M : Type 1} → statement M
-length-spec = tie.close (tie.spec dot-requires sqrt-requires returns)
+length-spec = tie.close (tie.spec (λ c κs. search needs) (λ c κs. search needs) returns)

@@ -4,12 +4,9 @@ use Rattle.vector.specs.Products.{lengthRecip}
 use Rattle.vector.proofs.vec3.Vec3.length_recip.Statement.{statement}
 use Rattle.vector.proofs.vec3.Vec3.length_recip.Tie as tie
 
-length-requires : tie.Need-length-requires
-length-requires c κs = search needs
-
 returns : tie.Need-returns
 unfolding lengthRecip
 returns c = simp (c .length .ensures)
 
 pub length-recip-spec : {M : Type 1} → statement M
-length-recip-spec = tie.close (tie.spec length-requires returns)
+length-recip-spec = tie.close (tie.spec (λ c κs. search needs) returns)

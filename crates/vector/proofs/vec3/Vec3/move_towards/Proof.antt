@@ -5,12 +5,6 @@ use borrow.Author.Needs.{needs}
 use Rattle.vector.proofs.vec3.Vec3.move_towards.Statement.{statement}
 use Rattle.vector.proofs.vec3.Vec3.move_towards.Tie as tie
 
-sub-requires : tie.Need-sub-requires
-sub-requires c κs = search needs
-
-length-requires : tie.Need-length-requires
-length-requires c κs = search needs
-
 returns : tie.Need-returns
 unfolding moveTowards
 returns c =
@@ -18,15 +12,6 @@ returns c =
       | inl p ↦ simp (← c .before .before .sub .ensures, ← c .before .length .ensures, p .taken)
       | inr p ↦ simp (← c .before .before .sub .ensures, ← c .before .length .ensures, p .0 .left, p .1 .taken)
     ]
-
-div-f32-requires : tie.Need-div-f32-requires
-div-f32-requires c κs = search needs
-
-mul-f32-requires : tie.Need-mul-f32-requires
-mul-f32-requires c κs = search needs
-
-add-requires : tie.Need-add-requires
-add-requires c κs = search needs
 
 returns-2 : tie.Need-returns-2
 unfolding moveTowards
@@ -39,10 +24,10 @@ pub move-towards-spec : {M : Type 1} → statement M
 move-towards-spec =
     tie.close
     (tie.spec
-    sub-requires
-    length-requires
+    (λ c κs. search needs)
+    (λ c κs. search needs)
     returns
-    div-f32-requires
-    mul-f32-requires
-    add-requires
+    (λ c κs. search needs)
+    (λ c κs. search needs)
+    (λ c κs. search needs)
     returns-2)

@@ -4,18 +4,9 @@ use borrow.Author.Needs.{needs}
 use Rattle.vector.proofs.vec3.Vec3.mul_add.Statement.{statement}
 use Rattle.vector.proofs.vec3.Vec3.mul_add.Tie as tie
 
-mul-add-requires : tie.Need-mul-add-requires
-mul-add-requires c κs = search needs
-
-mul-add-requires-2 : tie.Need-mul-add-requires-2
-mul-add-requires-2 c κs = search needs
-
-mul-add-requires-3 : tie.Need-mul-add-requires-3
-mul-add-requires-3 c κs = search needs
-
 returns : tie.Need-returns
 unfolding mulAdd
 returns c = simp (c .before .before .mul-add .ensures, c .before .mul-add2 .ensures, c .mul-add3 .ensures)
 
 pub mul-add-spec : {M : Type 1} → statement M
-mul-add-spec = tie.close (tie.spec mul-add-requires mul-add-requires-2 mul-add-requires-3 returns)
+mul-add-spec = tie.close (tie.spec (λ c κs. search needs) (λ c κs. search needs) (λ c κs. search needs) returns)

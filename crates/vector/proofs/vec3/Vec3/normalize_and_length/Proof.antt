@@ -4,15 +4,6 @@ use borrow.Author.Needs.{needs}
 use Rattle.vector.proofs.vec3.Vec3.normalize_and_length.Statement.{statement}
 use Rattle.vector.proofs.vec3.Vec3.normalize_and_length.Tie as tie
 
-length-requires : tie.Need-length-requires
-length-requires c κs = search needs
-
-usable-requires : tie.Need-usable-requires
-usable-requires c κs = search needs
-
-mul-f32-requires : tie.Need-mul-f32-requires
-mul-f32-requires c κs = search needs
-
 returns : tie.Need-returns
 unfolding normalizeAndLength
 returns c =
@@ -29,4 +20,4 @@ returns-2 c = simp (← c .before .before .length .ensures, ← c .before .usabl
 
 pub normalize-and-length-spec : {M : Type 1} → statement M
 normalize-and-length-spec =
-    tie.close (tie.spec length-requires usable-requires mul-f32-requires returns returns-2)
+    tie.close (tie.spec (λ c κs. search needs) (λ c κs. search needs) (λ c κs. search needs) returns returns-2)

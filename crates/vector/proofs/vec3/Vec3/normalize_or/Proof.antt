@@ -4,15 +4,6 @@ use Rattle.vector.proofs.meanings.NormalizingLaws.{unit-or-is}
 use Rattle.vector.proofs.vec3.Vec3.normalize_or.Statement.{statement}
 use Rattle.vector.proofs.vec3.Vec3.normalize_or.Tie as tie
 
-try-normalize-requires : tie.Need-try-normalize-requires
-try-normalize-requires c κs = search needs
-
-enum-known-unit : tie.Need-enum-known-unit
-enum-known-unit c = search needs
-
-enum-told : tie.Need-enum-told
-enum-told c = search needs
-
 returns : tie.Need-returns
 returns c =
     let s = c .before .before .before in
@@ -25,4 +16,4 @@ returns-2 c =
 
 pub normalize-or-spec : {M : Type 1} → statement M
 normalize-or-spec =
-    tie.close (tie.spec try-normalize-requires enum-known-unit enum-told returns returns-2)
+    tie.close (tie.spec (λ c κs. search needs) (λ c. search needs) (λ c. search needs) returns returns-2)

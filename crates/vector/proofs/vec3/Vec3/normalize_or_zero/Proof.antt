@@ -4,12 +4,9 @@ use borrow.Author.Needs.{needs}
 use Rattle.vector.proofs.vec3.Vec3.normalize_or_zero.Statement.{statement}
 use Rattle.vector.proofs.vec3.Vec3.normalize_or_zero.Tie as tie
 
-normalize-or-requires : tie.Need-normalize-or-requires
-normalize-or-requires c κs = search needs
-
 returns : tie.Need-returns
 unfolding normalizeOrZero
 returns c = simp (c .normalize-or .ensures)
 
 pub normalize-or-zero-spec : {M : Type 1} → statement M
-normalize-or-zero-spec = tie.close (tie.spec normalize-or-requires returns)
+normalize-or-zero-spec = tie.close (tie.spec (λ c κs. search needs) returns)

@@ -4,18 +4,6 @@ use borrow.Author.Needs.{needs}
 use Rattle.vector.proofs.vec3.Vec3.project_onto.Statement.{statement}
 use Rattle.vector.proofs.vec3.Vec3.project_onto.Tie as tie
 
-dot-requires : tie.Need-dot-requires
-dot-requires c κs = search needs
-
-dot-requires-2 : tie.Need-dot-requires-2
-dot-requires-2 c κs = search needs
-
-mul-f32-requires : tie.Need-mul-f32-requires
-mul-f32-requires c κs = search needs
-
-mul-f32-requires-2 : tie.Need-mul-f32-requires-2
-mul-f32-requires-2 c κs = search needs
-
 returns : tie.Need-returns
 unfolding projectOnto
 returns c =
@@ -28,4 +16,4 @@ returns c =
 
 pub project-onto-spec : {M : Type 1} → statement M
 project-onto-spec =
-    tie.close (tie.spec dot-requires dot-requires-2 mul-f32-requires mul-f32-requires-2 returns)
+    tie.close (tie.spec (λ c κs. search needs) (λ c κs. search needs) (λ c κs. search needs) (λ c κs. search needs) returns)

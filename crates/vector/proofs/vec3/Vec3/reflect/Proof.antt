@@ -4,18 +4,9 @@ use borrow.Author.Needs.{needs}
 use Rattle.vector.proofs.vec3.Vec3.reflect.Statement.{statement}
 use Rattle.vector.proofs.vec3.Vec3.reflect.Tie as tie
 
-dot-requires : tie.Need-dot-requires
-dot-requires c κs = search needs
-
-f32-mul-requires : tie.Need-f32-mul-requires
-f32-mul-requires c κs = search needs
-
-sub-requires : tie.Need-sub-requires
-sub-requires c κs = search needs
-
 returns : tie.Need-returns
 unfolding reflect
 returns c = simp (c .before .before .dot .ensures, c .before .f32-mul .ensures, c .sub .ensures)
 
 pub reflect-spec : {M : Type 1} → statement M
-reflect-spec = tie.close (tie.spec dot-requires f32-mul-requires sub-requires returns)
+reflect-spec = tie.close (tie.spec (λ c κs. search needs) (λ c κs. search needs) (λ c κs. search needs) returns)

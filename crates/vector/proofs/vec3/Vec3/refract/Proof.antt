@@ -4,21 +4,6 @@ use borrow.Author.Needs.{needs}
 use Rattle.vector.proofs.vec3.Vec3.refract.Statement.{statement}
 use Rattle.vector.proofs.vec3.Vec3.refract.Tie as tie
 
-dot-requires : tie.Need-dot-requires
-dot-requires c κs = search needs
-
-f32-mul-requires : tie.Need-f32-mul-requires
-f32-mul-requires c κs = search needs
-
-sqrt-requires : tie.Need-sqrt-requires
-sqrt-requires c κs = search needs
-
-f32-mul-requires-2 : tie.Need-f32-mul-requires-2
-f32-mul-requires-2 c κs = search needs
-
-sub-requires : tie.Need-sub-requires
-sub-requires c κs = search needs
-
 returns : tie.Need-returns
 unfolding refract refractK
 returns c = simp (← c .before .before .before .before .before .dot .ensures, c .before .before .before .before .if1 .taken, ← c .before .before .before .f32-mul .ensures, ← c .before .before .sqrt .ensures, ← c .before .f32-mul2 .ensures, ← c .sub .ensures)
@@ -31,10 +16,10 @@ pub refract-spec : {M : Type 1} → statement M
 refract-spec =
     tie.close
     (tie.spec
-    dot-requires
-    f32-mul-requires
-    sqrt-requires
-    f32-mul-requires-2
-    sub-requires
+    (λ c κs. search needs)
+    (λ c κs. search needs)
+    (λ c κs. search needs)
+    (λ c κs. search needs)
+    (λ c κs. search needs)
     returns
     returns-2)

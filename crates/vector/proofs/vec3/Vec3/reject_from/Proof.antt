@@ -4,15 +4,9 @@ use borrow.Author.Needs.{needs}
 use Rattle.vector.proofs.vec3.Vec3.reject_from.Statement.{statement}
 use Rattle.vector.proofs.vec3.Vec3.reject_from.Tie as tie
 
-project-onto-requires : tie.Need-project-onto-requires
-project-onto-requires c κs = search needs
-
-sub-requires : tie.Need-sub-requires
-sub-requires c κs = search needs
-
 returns : tie.Need-returns
 unfolding rejectFrom
 returns c = simp (c .before .project-onto .ensures, c .sub .ensures)
 
 pub reject-from-spec : {M : Type 1} → statement M
-reject-from-spec = tie.close (tie.spec project-onto-requires sub-requires returns)
+reject-from-spec = tie.close (tie.spec (λ c κs. search needs) (λ c κs. search needs) returns)

@@ -4,16 +4,10 @@ use borrow.Author.Needs.{needs}
 use Rattle.vector.proofs.vec3.Vec3.reject_from_normalized.Statement.{statement}
 use Rattle.vector.proofs.vec3.Vec3.reject_from_normalized.Tie as tie
 
-project-onto-normalized-requires : tie.Need-project-onto-normalized-requires
-project-onto-normalized-requires c κs = search needs
-
-sub-requires : tie.Need-sub-requires
-sub-requires c κs = search needs
-
 returns : tie.Need-returns
 unfolding rejectFromNormalized
 returns c = simp (c .before .project-onto-normalized .ensures, c .sub .ensures)
 
 pub reject-from-normalized-spec : {M : Type 1} → statement M
 reject-from-normalized-spec =
-    tie.close (tie.spec project-onto-normalized-requires sub-requires returns)
+    tie.close (tie.spec (λ c κs. search needs) (λ c κs. search needs) returns)

@@ -4,19 +4,10 @@ use borrow.Author.Needs.{needs}
 use Rattle.vector.proofs.vec3.Vec3.rem_euclid.Statement.{statement}
 use Rattle.vector.proofs.vec3.Vec3.rem_euclid.Tie as tie
 
-rem-euclid-requires : tie.Need-rem-euclid-requires
-rem-euclid-requires c κs = search needs
-
-rem-euclid-requires-2 : tie.Need-rem-euclid-requires-2
-rem-euclid-requires-2 c κs = search needs
-
-rem-euclid-requires-3 : tie.Need-rem-euclid-requires-3
-rem-euclid-requires-3 c κs = search needs
-
 returns : tie.Need-returns
 unfolding remEuclid
 returns c = simp (c .before .before .rem-euclid .ensures, c .before .rem-euclid2 .ensures, c .rem-euclid3 .ensures)
 
 pub rem-euclid-spec : {M : Type 1} → statement M
 rem-euclid-spec =
-    tie.close (tie.spec rem-euclid-requires rem-euclid-requires-2 rem-euclid-requires-3 returns)
+    tie.close (tie.spec (λ c κs. search needs) (λ c κs. search needs) (λ c κs. search needs) returns)

@@ -4,12 +4,9 @@ use Rattle.vector.specs.Rounding.{saturate}
 use Rattle.vector.proofs.vec3.Vec3.saturate.Statement.{statement}
 use Rattle.vector.proofs.vec3.Vec3.saturate.Tie as tie
 
-clamp-requires : tie.Need-clamp-requires
-clamp-requires c κs = search needs
-
 returns : tie.Need-returns
 unfolding saturate
 returns c = c .clamp .ensures
 
 pub saturate-spec : {M : Type 1} → statement M
-saturate-spec = tie.close (tie.spec clamp-requires returns)
+saturate-spec = tie.close (tie.spec (λ c κs. search needs) returns)

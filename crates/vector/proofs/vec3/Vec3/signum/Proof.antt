@@ -4,18 +4,9 @@ use Rattle.vector.specs.Signs.{signum}
 use Rattle.vector.proofs.vec3.Vec3.signum.Statement.{statement}
 use Rattle.vector.proofs.vec3.Vec3.signum.Tie as tie
 
-signum-requires : tie.Need-signum-requires
-signum-requires c κs = search needs
-
-signum-requires-2 : tie.Need-signum-requires-2
-signum-requires-2 c κs = search needs
-
-signum-requires-3 : tie.Need-signum-requires-3
-signum-requires-3 c κs = search needs
-
 returns : tie.Need-returns
 unfolding signum
 returns c = simp (c .before .before .signum .ensures, c .before .signum2 .ensures, c .signum3 .ensures)
 
 pub signum-spec : {M : Type 1} → statement M
-signum-spec = tie.close (tie.spec signum-requires signum-requires-2 signum-requires-3 returns)
+signum-spec = tie.close (tie.spec (λ c κs. search needs) (λ c κs. search needs) (λ c κs. search needs) returns)

@@ -4,15 +4,9 @@ use Rattle.vector.specs.Rounding.{step}
 use Rattle.vector.proofs.vec3.Vec3.step.Statement.{statement}
 use Rattle.vector.proofs.vec3.Vec3.step.Tie as tie
 
-cmplt-requires : tie.Need-cmplt-requires
-cmplt-requires c κs = search needs
-
-select-requires : tie.Need-select-requires
-select-requires c κs = search needs
-
 returns : tie.Need-returns
 unfolding step
 returns c = simp (c .before .cmplt .ensures, c .select .ensures)
 
 pub step-spec : {M : Type 1} → statement M
-step-spec = tie.close (tie.spec cmplt-requires select-requires returns)
+step-spec = tie.close (tie.spec (λ c κs. search needs) (λ c κs. search needs) returns)

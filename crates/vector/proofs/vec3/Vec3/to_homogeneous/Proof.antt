@@ -4,12 +4,9 @@ use Rattle.vector.specs.Homogeneous.{toHomogeneous}
 use Rattle.vector.proofs.vec3.Vec3.to_homogeneous.Statement.{statement}
 use Rattle.vector.proofs.vec3.Vec3.to_homogeneous.Tie as tie
 
-extend-requires : tie.Need-extend-requires
-extend-requires c κs = search needs
-
 returns : tie.Need-returns
 unfolding toHomogeneous
 returns c = c .extend .ensures
 
 pub to-homogeneous-spec : {M : Type 1} → statement M
-to-homogeneous-spec = tie.close (tie.spec extend-requires returns)
+to-homogeneous-spec = tie.close (tie.spec (λ c κs. search needs) returns)

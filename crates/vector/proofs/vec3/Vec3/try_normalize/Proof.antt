@@ -5,15 +5,6 @@ use Rattle.vector.proofs.meanings.NormalizingLaws.{shown}
 use Rattle.vector.proofs.vec3.Vec3.try_normalize.Statement.{statement}
 use Rattle.vector.proofs.vec3.Vec3.try_normalize.Tie as tie
 
-length-recip-requires : tie.Need-length-recip-requires
-length-recip-requires c κs = search needs
-
-usable-requires : tie.Need-usable-requires
-usable-requires c κs = search needs
-
-mul-f32-requires : tie.Need-mul-f32-requires
-mul-f32-requires c κs = search needs
-
 returns : tie.Need-returns
 unfolding tryNormalize
 returns c =
@@ -31,4 +22,4 @@ returns-2 c = shown _ (simp (← c .before .before .length-recip .ensures, ← c
 
 pub try-normalize-spec : {M : Type 1} → statement M
 try-normalize-spec =
-    tie.close (tie.spec length-recip-requires usable-requires mul-f32-requires returns returns-2)
+    tie.close (tie.spec (λ c κs. search needs) (λ c κs. search needs) (λ c κs. search needs) returns returns-2)

@@ -4,9 +4,6 @@ use borrow.Author.Needs.{needs}
 use Rattle.vector.proofs.vec3.normalizing.usable.Statement.{statement}
 use Rattle.vector.proofs.vec3.normalizing.usable.Tie as tie
 
-is-finite-requires : tie.Need-is-finite-requires
-is-finite-requires c κs = search needs
-
 returns : tie.Need-returns
 unfolding usable
 returns c = simp (← c .before .is-finite .ensures, c .if1 .taken)
@@ -16,4 +13,4 @@ unfolding usable
 returns-2 c = simp (← c .before .is-finite .ensures, c .if1 .left)
 
 pub usable-spec : {M : Type 1} → statement M
-usable-spec = tie.close (tie.spec is-finite-requires returns returns-2)
+usable-spec = tie.close (tie.spec (λ c κs. search needs) returns returns-2)
