@@ -40,7 +40,7 @@ impl Vec3 {
         let x = abs(d.x) <= max_abs_diff;
         let y = abs(d.y) <= max_abs_diff;
         let z = abs(d.z) <= max_abs_diff;
-        x && y && z
+        x & y & z
     }
 
     // self * a + b, rounded once in each component.

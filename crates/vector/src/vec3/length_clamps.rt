@@ -4,6 +4,13 @@ ghost use Rattle.vector.specs.LengthClamps as LengthClamps;
 use crate::vec3::Vec3;
 use scalar::root::sqrt;
 
+// A vector of the squared length length_sq with its length brought to bound.
+fn at_length(a: Vec3, length_sq: f32, bound: f32) -> Vec3
+    ensures { λ r. ⌜ r ≡ LengthClamps.atLength bound a «length_sq» ⌝ }
+{
+    Vec3::f32_mul(bound, a.div_f32(sqrt(length_sq)))
+}
+
 impl Vec3 {
     // A vector with a length no less than min and no more than max.
     pub fn clamp_length(self, min: f32, max: f32) -> Vec3
@@ -11,9 +18,9 @@ impl Vec3 {
     {
         let length_sq = self.length_squared();
         if length_sq < min * min {
-            Vec3::f32_mul(min, self.div_f32(sqrt(length_sq)))
+            at_length(self, length_sq, min)
         } else if length_sq > max * max {
-            Vec3::f32_mul(max, self.div_f32(sqrt(length_sq)))
+            at_length(self, length_sq, max)
         } else {
             self
         }
@@ -25,7 +32,7 @@ impl Vec3 {
     {
         let length_sq = self.length_squared();
         if length_sq > max * max {
-            Vec3::f32_mul(max, self.div_f32(sqrt(length_sq)))
+            at_length(self, length_sq, max)
         } else {
             self
         }
@@ -37,7 +44,7 @@ impl Vec3 {
     {
         let length_sq = self.length_squared();
         if length_sq < min * min {
-            Vec3::f32_mul(min, self.div_f32(sqrt(length_sq)))
+            at_length(self, length_sq, min)
         } else {
             self
         }

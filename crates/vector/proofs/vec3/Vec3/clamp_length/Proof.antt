@@ -6,26 +6,11 @@ use Rattle.vector.proofs.vec3.Vec3.clamp_length.Tie as tie
 
 returns : tie.Need-returns
 unfolding clampLength
-returns c =
-    simp (
-      ← c .before .before .before .before .length-squared .ensures,
-      c .before .before .before .if1 .taken,
-      ← c .before .before .sqrt .ensures,
-      ← c .before .div-f32 .ensures,
-      ← c .f32-mul .ensures,
-    )
+returns c = simp (← c .before .before .length-squared .ensures, c .before .if1 .taken, ← c .at-length .ensures)
 
 returns-2 : tie.Need-returns-2
 unfolding clampLength
-returns-2 c =
-    simp (
-      ← c .before .before .before .before .before .length-squared .ensures,
-      c .before .before .before .before .if1 .left,
-      c .before .before .before .if2 .taken,
-      ← c .before .before .sqrt2 .ensures,
-      ← c .before .div-f322 .ensures,
-      ← c .f32-mul2 .ensures,
-    )
+returns-2 c = simp (← c .before .before .before .length-squared .ensures, c .before .before .if1 .left, c .before .if2 .taken, ← c .at-length2 .ensures)
 
 returns-3 : tie.Need-returns-3
 unfolding clampLength
@@ -33,15 +18,4 @@ returns-3 c = simp (← c .before .before .length-squared .ensures, c .before .i
 
 pub clamp-length-spec : {M : Type 1} → statement M
 clamp-length-spec =
-    tie.close
-    (tie.spec
-    (λ c κs. search needs)
-    (λ c κs. search needs)
-    (λ c κs. search needs)
-    (λ c κs. search needs)
-    (λ c κs. search needs)
-    (λ c κs. search needs)
-    (λ c κs. search needs)
-    returns
-    returns-2
-    returns-3)
+    tie.close (tie.spec (λ c κs. search needs) (λ c κs. search needs) (λ c κs. search needs) returns returns-2 returns-3)
