@@ -8,7 +8,7 @@ use Rattle.laws.specs.Within.{Within}
 use Rattle.laws.proofs.solvers.Ring.{var, lit, _⊕_, _⊗_}
 use Rattle.laws.proofs.solvers.Certificates.{by, done, cert-times}
 
--- ---- one rounding to 24 digits
+-- ---- one rounding to 24 bits
 abbrev pub Q : ℕ
 Q = 2 ^ 24
 
