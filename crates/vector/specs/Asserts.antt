@@ -1,9 +1,11 @@
 -- What the text of each function of src/f32/vec3.rs that a command calls asserts by glam_assert, worked out in f32 from its arguments (document 01, "The plain sheet":
--- "A Rust function's glam_assert condition is all that its text asserts by that macro"). The macro is off, so that no answer depends on these.
+-- "A Rust function's glam_assert condition is all that its text asserts by that macro"), and at the end that of `clamp` and `from_homogeneous`, for their callers. The macro is off, so
+-- that no answer depends on these.
 use mathlib.Core.Bool.{Bool, _&&_}
-use lib.Ieee.{Float, lt, le}
+use lib.Ieee.{Float, lt, le, ne}
 use lib.Ieee.Scale.{finite}
 use Rattle.vector.specs.declared.vec3.Vec3.{Vec3}
+use Rattle.vector.specs.declared.vec4.Vec4.{Vec4}
 use Rattle.vector.specs.Vectors.{zer}
 use Rattle.vector.specs.Products.{lengthSquared}
 use Rattle.vector.specs.Normalizing.{isNormalized}
@@ -48,3 +50,12 @@ assertsAngleBetween a b = nonZero a && nonZero b
 -- glam_assert!(self.is_normalized())
 unfoldable pub assertsAnyOrthonormalPair : Vec3 → Bool
 assertsAnyOrthonormalPair a = isNormalized a
+
+-- ---- of functions that no command calls
+-- glam_assert!(min.cmple(max).all())
+unfoldable pub assertsClamp : Vec3 → Vec3 → Vec3 → Bool
+assertsClamp a min max = le (min .x) (max .x) && le (min .y) (max .y) && le (min .z) (max .z)
+
+-- glam_assert!(v.w != 0.0)
+unfoldable pub assertsFromHomogeneous : Vec4 → Bool
+assertsFromHomogeneous v = ne (v .w) zer
