@@ -10,10 +10,10 @@ use lib.Seq.{take-all, take-add, length-take-le}
 use Rattle.sheet.specs.Words.{lentStep}
 use Rattle.stream.specs.Responses.{lineResponse}
 use Rattle.stream.specs.Stream.{Held, held, pushed, byteFed, feedOf, consumedOf, FedInto, fedInto}
-use Rattle.stream.proofs.PieceLaws.{feed-append-held, feed-append-text}
-use Rattle.stream.proofs.AnswerLaws.{length-text}
-use Rattle.stream.proofs.EndLaws.{answered, unanswered}
-use Rattle.stream.proofs.FedLaws.{consumed-part, consumed-some}
+use Rattle.stream.proofs.inputs.PieceLaws.{feed-append-held, feed-append-text}
+use Rattle.stream.proofs.turns.AnswerLaws.{length-text}
+use Rattle.stream.proofs.turns.EndLaws.{answered, unanswered}
+use Rattle.stream.proofs.turns.FedLaws.{consumed-part, consumed-some}
 
 -- ---- an answer line at most for each byte
 byte-most : (h : Held (List ℕ)) (b : ℕ) → length (byteFed lentStep h b .text) ≤ 43

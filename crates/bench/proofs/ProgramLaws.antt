@@ -4,7 +4,7 @@ use mathlib.Core.Path.{refl, ap}
 use mathlib.Core.List.{List}
 use Rattle.sheet.specs.Words.{freshWords}
 use Rattle.stream.specs.Stream.{Held}
-use Rattle.stream.proofs.CallLaws.{fresh-fed-answered}
+use Rattle.stream.proofs.calls.CallLaws.{fresh-fed-answered}
 use Rattle.bench.specs.Program.{answersTo, ProgramAnswers}
 
 pub program-answers : ProgramAnswers

@@ -14,7 +14,7 @@ use Rattle.io.specs.Counts.{clamped}
 use Rattle.sheet.specs.Words.{lentStep}
 use Rattle.stream.specs.declared.Stream.{Stream}
 use Rattle.stream.specs.Stream.{Held, held, textOf, feedOf, endedOf}
-use Rattle.stream.proofs.PieceLaws.{feed-append-held}
+use Rattle.stream.proofs.inputs.PieceLaws.{feed-append-held}
 use Rattle.bench.specs.declared.answer.Answered.{Answered}
 use Rattle.bench.specs.declared.input.Status.{Status}
 use Rattle.bench.specs.declared.input.Status.the-variants.{Going, Ended, ReadFailed, WriteFailed}

@@ -6,7 +6,7 @@ use native.Mathlib.Omega.{arith}
 use lib.ListN.{length}
 use lib.Seq.{length-take-le}
 use Rattle.stream.specs.Stream.{EndedInto, textOf}
-use Rattle.stream.proofs.AnswerLaws.{ended-fits}
+use Rattle.stream.proofs.turns.AnswerLaws.{ended-fits}
 use Rattle.bench.proofs.answer.answer_end.Statement.{statement}
 use Rattle.bench.proofs.answer.answer_end.Tie as tie
 

@@ -5,7 +5,7 @@ use mathlib.Core.Path.{sym}
 use native.Mathlib.Omega.{arith}
 use lib.ListN.{length}
 use lib.Seq.{length-take-le}
-use Rattle.stream.proofs.FedLaws.{produced-fits}
+use Rattle.stream.proofs.turns.FedLaws.{produced-fits}
 use Rattle.bench.proofs.answer.answer_some.Statement.{statement}
 use Rattle.bench.proofs.answer.answer_some.Tie as tie
 

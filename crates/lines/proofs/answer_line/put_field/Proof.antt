@@ -1,5 +1,5 @@
 -- `lines::answer_line::put_field` meets its contract. Assumes nothing.
-use Rattle.lines.proofs.ColumnLaws.{put-part}
+use Rattle.lines.proofs.columns.ColumnLaws.{put-part}
 use borrow.Author.Needs.{needs}
 use Rattle.lines.proofs.answer_line.put_field.Statement.{statement}
 use Rattle.lines.proofs.answer_line.put_field.Tie as tie

@@ -2,7 +2,7 @@
 use native.Mathlib.Omega.{arith}
 use lib.ListN.{length}
 use mathlib.Core.Path.{ap, _∙_}
-use Rattle.lines.proofs.AnswerLineLaws.{put-line, put-none, length-put}
+use Rattle.lines.proofs.columns.AnswerLineLaws.{put-line, put-none, length-put}
 use borrow.Author.Needs.{needs}
 use Rattle.lines.proofs.answer_line.put_six.Statement.{statement}
 use Rattle.lines.proofs.answer_line.put_six.Tie as tie

@@ -1,7 +1,7 @@
 -- `lines::command_line::field_of_11` meets its contract. Assumes nothing.
 use mathlib.Core.Path.{ap, _∙_}
 use Rattle.lines.specs.Field.{number}
-use Rattle.lines.proofs.ColumnLaws.{read-part}
+use Rattle.lines.proofs.columns.ColumnLaws.{read-part}
 use borrow.Author.Needs.{needs}
 use Rattle.lines.proofs.command_line.field_of_11.Statement.{statement}
 use Rattle.lines.proofs.command_line.field_of_11.Tie as tie

@@ -2,8 +2,8 @@
 use mathlib.Core.Path.{ap, _∙_}
 use native.Mathlib.Nat.{le-trans, le-of-eq}
 use Rattle.lines.specs.Field.{number}
-use Rattle.lines.proofs.ColumnLaws.{read-part}
-use Rattle.lines.proofs.NarrowLaws.{fewer-digits}
+use Rattle.lines.proofs.columns.ColumnLaws.{read-part}
+use Rattle.lines.proofs.numerals.NarrowLaws.{fewer-digits}
 use borrow.Author.Needs.{needs}
 use Rattle.lines.proofs.command_line.field_of_3.Statement.{statement}
 use Rattle.lines.proofs.command_line.field_of_3.Tie as tie

@@ -1,7 +1,7 @@
 -- `lines::command_line::fields` meets its contract. Assumes nothing.
 use mathlib.Core.Path.{sym, _∙_}
-use Rattle.lines.proofs.ColumnLaws.{ill-here, ill-later}
-use Rattle.lines.proofs.CommandLineLaws.{few-lent, other-length, ill-field, read-seven, is-read}
+use Rattle.lines.proofs.columns.ColumnLaws.{ill-here, ill-later}
+use Rattle.lines.proofs.columns.CommandLineLaws.{few-lent, other-length, ill-field, read-seven, is-read}
 use borrow.Author.Needs.{needs}
 use Rattle.lines.proofs.command_line.fields.Statement.{statement}
 use Rattle.lines.proofs.command_line.fields.Tie as tie

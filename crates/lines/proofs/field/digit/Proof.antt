@@ -1,5 +1,5 @@
 -- `lines::field::digit` meets its contract. Assumes nothing.
-use Rattle.lines.proofs.ReadLaws.{digit-value}
+use Rattle.lines.proofs.numerals.ReadLaws.{digit-value}
 use borrow.Author.Needs.{needs}
 use Rattle.lines.proofs.field.digit.Statement.{statement}
 use Rattle.lines.proofs.field.digit.Tie as tie

@@ -4,7 +4,7 @@ use native.Mathlib.Omega.{arith}
 use mathlib.Core.Path.{_≡_, refl, sym, _∙_}
 use lib.ListN.{length, drop}
 use Rattle.lines.specs.Field.{digits}
-use Rattle.lines.proofs.ReadLaws.{part-from, blank-more, blank-end, blank-all}
+use Rattle.lines.proofs.numerals.ReadLaws.{part-from, blank-more, blank-end, blank-all}
 use Rattle.lines.proofs.field.digits.Statement.{statement}
 use Rattle.lines.proofs.field.digits.Tie as tie
 

@@ -3,7 +3,7 @@ use mathlib.Core.Bool.{false}
 use mathlib.Core.Path.{_≡_, sym, _∙_}
 use borrow.Author.Tests.{eq-eqb, ne-eqb}
 use Rattle.lines.specs.Field.{leadingZero, number}
-use Rattle.lines.proofs.ReadLaws.{long-ill}
+use Rattle.lines.proofs.numerals.ReadLaws.{long-ill}
 use borrow.Author.Needs.{needs}
 use Rattle.lines.proofs.field.number.Statement.{statement}
 use Rattle.lines.proofs.field.number.Tie as tie

@@ -3,7 +3,7 @@ use borrow.Author.Needs.{needs}
 use native.Mathlib.Omega.{arith}
 use mathlib.Core.Path.{_≡_, refl, ap, _∙_}
 use lib.ListN.{length, length-set}
-use Rattle.lines.proofs.WriteLaws.{Spelt, spelt-none, spelt-one, spelt-more, spelt-all, length-written}
+use Rattle.lines.proofs.numerals.WriteLaws.{Spelt, spelt-none, spelt-one, spelt-more, spelt-all, length-written}
 use Rattle.lines.proofs.field.put_number.Statement.{statement}
 use Rattle.lines.proofs.field.put_number.Tie as tie
 

@@ -3,8 +3,8 @@ use mathlib.Core.Path.{ap, sym, _∙_}
 use native.Mathlib.Omega.{arith}
 use lib.ListN.{length}
 use Rattle.lines.specs.Field.{glyph}
-use Rattle.lines.proofs.WriteLaws.{length-written}
-use Rattle.lines.proofs.TenDigitLaws.{ten-written}
+use Rattle.lines.proofs.numerals.WriteLaws.{length-written}
+use Rattle.lines.proofs.numerals.TenDigitLaws.{ten-written}
 use borrow.Author.Needs.{needs}
 use Rattle.lines.proofs.field.put_ten.Statement.{statement}
 use Rattle.lines.proofs.field.put_ten.Tie as tie

@@ -3,7 +3,7 @@ use Prim.Native.Nat.{_-_, _<_}
 use mathlib.Core.Path.{_∙_}
 use native.Mathlib.Omega.{arith}
 use lib.ListN.{length}
-use Rattle.lines.proofs.ReadLaws.{Reads, reads-none, reads-below, reads-more, reads-two, reads-other, reads-all}
+use Rattle.lines.proofs.numerals.ReadLaws.{Reads, reads-none, reads-below, reads-more, reads-two, reads-other, reads-all}
 use borrow.Author.Needs.{needs}
 use Rattle.lines.proofs.field.value.Statement.{statement}
 use Rattle.lines.proofs.field.value.Tie as tie

@@ -2,8 +2,8 @@
 use Prim.Native.Nat.{_+_, _*_, _≤_}
 use mathlib.Core.Path.{_∙_}
 use native.Mathlib.Omega.{arith}
-use Rattle.lines.proofs.ReadLaws.{part-from}
-use Rattle.lines.proofs.NarrowLaws.{two-below, three-below, after-blanks}
+use Rattle.lines.proofs.numerals.ReadLaws.{part-from}
+use Rattle.lines.proofs.numerals.NarrowLaws.{two-below, three-below, after-blanks}
 use borrow.Author.Needs.{needs}
 use Rattle.lines.proofs.narrow.digits.Statement.{statement}
 use Rattle.lines.proofs.narrow.digits.Tie as tie

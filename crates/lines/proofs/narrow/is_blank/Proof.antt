@@ -1,6 +1,6 @@
 -- `lines::narrow::is_blank` meets its contract. Assumes nothing.
 use native.Mathlib.Omega.{arith}
-use Rattle.lines.proofs.NarrowLaws.{blank-one, other-none}
+use Rattle.lines.proofs.numerals.NarrowLaws.{blank-one, other-none}
 use Rattle.lines.proofs.narrow.is_blank.Statement.{statement}
 use Rattle.lines.proofs.narrow.is_blank.Tie as tie
 

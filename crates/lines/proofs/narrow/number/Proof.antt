@@ -3,7 +3,7 @@ use Prim.Native.Nat.{ℕ, _*_, _-_, _/_, _≤_}
 use mathlib.Core.List.{List}
 use native.Mathlib.Omega.{arith}
 use lib.ListN.{length}
-use Rattle.lines.proofs.NarrowLaws.{none-ill, other-ill, zero-ill, digits-read, hundreds-below, tens-below}
+use Rattle.lines.proofs.numerals.NarrowLaws.{none-ill, other-ill, zero-ill, digits-read, hundreds-below, tens-below}
 use borrow.Author.Needs.{needs}
 use Rattle.lines.proofs.narrow.number.Statement.{statement}
 use Rattle.lines.proofs.narrow.number.Tie as tie

@@ -2,7 +2,7 @@
 use mathlib.Core.Path.{_≡_, _∙_}
 use native.Mathlib.Omega.{arith}
 use lib.ListN.{length, take, length-take}
-use Rattle.stream.proofs.AnswerLaws.{end-none, end-short, end-answered}
+use Rattle.stream.proofs.turns.AnswerLaws.{end-none, end-short, end-answered}
 use borrow.Author.Needs.{needs}
 use Rattle.stream.proofs.Stream.ended.Statement.{statement}
 use Rattle.stream.proofs.Stream.ended.Tie as tie

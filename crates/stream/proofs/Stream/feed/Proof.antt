@@ -9,9 +9,9 @@ use lib.ListN.{length, take}
 use lib.Seq.{length-take-le}
 use Rattle.stream.specs.Stream.{held}
 use Rattle.stream.specs.Turns.{IsRun}
-use Rattle.stream.proofs.ConsumedLaws.{ends-count}
-use Rattle.stream.proofs.FeedLaws.{take-min, length-feeding}
-use Rattle.stream.proofs.TurnLaws.{Turning, step-answered, turning-none, turned-full, turned-all, turn-run, turn-ill, turn-push, turn-full}
+use Rattle.stream.proofs.turns.ConsumedLaws.{ends-count}
+use Rattle.stream.proofs.turns.FeedLaws.{take-min, length-feeding}
+use Rattle.stream.proofs.turns.TurnLaws.{Turning, step-answered, turning-none, turned-full, turned-all, turn-run, turn-ill, turn-push, turn-full}
 use Rattle.stream.proofs.Stream.feed.Statement.{statement}
 use Rattle.stream.proofs.Stream.feed.Tie as tie
 

@@ -1,6 +1,6 @@
 -- `stream::answers::put_line` meets its contract. Assumes nothing.
 use Rattle.stream.specs.Turns.{answerFrom}
-use Rattle.stream.proofs.AnswerLaws.{answered-part}
+use Rattle.stream.proofs.turns.AnswerLaws.{answered-part}
 use borrow.Author.Needs.{needs}
 use Rattle.stream.proofs.answers.put_line.Statement.{statement}
 use Rattle.stream.proofs.answers.put_line.Tie as tie

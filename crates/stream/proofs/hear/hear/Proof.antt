@@ -2,7 +2,7 @@
 use Prim.Native.Nat.{_+_, _-_}
 use mathlib.Core.Path.{_≡_, sym, _∙_}
 use native.Mathlib.Omega.{arith}
-use Rattle.stream.proofs.HearLaws.{read-all, hear-line}
+use Rattle.stream.proofs.turns.HearLaws.{read-all, hear-line}
 use borrow.Author.Needs.{needs}
 use Rattle.stream.proofs.hear.hear.Statement.{statement}
 use Rattle.stream.proofs.hear.hear.Tie as tie

@@ -1,6 +1,6 @@
 -- `stream::hear::hear_byte` meets its contract. Assumes nothing.
 use mathlib.Core.Path.{sym, _∙_}
-use Rattle.stream.proofs.HearLaws.{read-all, read-none, hear-end}
+use Rattle.stream.proofs.turns.HearLaws.{read-all, read-none, hear-end}
 use borrow.Author.Needs.{needs}
 use Rattle.stream.proofs.hear.hear_byte.Statement.{statement}
 use Rattle.stream.proofs.hear.hear_byte.Tie as tie

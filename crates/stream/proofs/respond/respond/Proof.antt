@@ -6,8 +6,8 @@ use Rattle.commands.specs.Model.{stepped}
 use Rattle.sheet.specs.Words.{lentStep}
 use Rattle.stream.specs.Responses.{lineResponse}
 use Rattle.stream.specs.Turns.{answerFrom}
-use Rattle.stream.proofs.HearLaws.{read-all, read-none}
-use Rattle.stream.proofs.ResponseLaws.{respond-short, respond-answered, answer-ill, answer-ran}
+use Rattle.stream.proofs.turns.HearLaws.{read-all, read-none}
+use Rattle.stream.proofs.turns.ResponseLaws.{respond-short, respond-answered, answer-ill, answer-ran}
 use borrow.Author.Needs.{needs}
 use Rattle.stream.proofs.respond.respond.Statement.{statement}
 use Rattle.stream.proofs.respond.respond.Tie as tie

@@ -15,11 +15,11 @@ use Rattle.lines.specs.Field.{digits, isDigit, decimal, number, written}
 use Rattle.lines.specs.Columns.{fieldAt, both, numbersAt, text}
 use Rattle.lines.specs.CommandLine.{widths, numbers}
 use Rattle.lines.specs.LineMeaning.{NoLineFeed, WellFormedWhole, AllRoom, LineReadBack, LineWrittenBack, AnswerLength}
-use Rattle.lines.proofs.WriteLaws.{length-written}
-use Rattle.lines.proofs.FieldMeaningLaws.{digit-range, both-true, read-field}
-use Rattle.lines.proofs.RoundTripLaws.{read-back, written-back}
-use Rattle.lines.proofs.ColumnLaws.{columns, length-text}
-use Rattle.lines.proofs.AnswerLineLaws.{length-answer}
+use Rattle.lines.proofs.numerals.WriteLaws.{length-written}
+use Rattle.lines.proofs.numerals.FieldMeaningLaws.{digit-range, both-true, read-field}
+use Rattle.lines.proofs.numerals.RoundTripLaws.{read-back, written-back}
+use Rattle.lines.proofs.columns.ColumnLaws.{columns, length-text}
+use Rattle.lines.proofs.columns.AnswerLineLaws.{length-answer}
 
 -- ---- what is known of a line that gives numbers
 

@@ -14,10 +14,10 @@ use Rattle.commands.specs.Model.{Stepped}
 use Rattle.stream.specs.Responses.{lineResponse, answerText}
 use Rattle.stream.specs.Stream.{Held, held, pushed, byteFed, feedOf, consumedOf, fedInto}
 use Rattle.stream.specs.Turns.{answeredAt, Ends, IsByte}
-use Rattle.stream.proofs.PieceLaws.{feed-append-held, feed-append-text}
-use Rattle.stream.proofs.ConsumedLaws.{consumed-byte, consumed-line}
-use Rattle.stream.proofs.EndLaws.{answered, line-fed}
-use Rattle.stream.proofs.AnswerLaws.{length-text}
+use Rattle.stream.proofs.inputs.PieceLaws.{feed-append-held, feed-append-text}
+use Rattle.stream.proofs.turns.ConsumedLaws.{consumed-byte, consumed-line}
+use Rattle.stream.proofs.turns.EndLaws.{answered, line-fed}
+use Rattle.stream.proofs.turns.AnswerLaws.{length-text}
 
 -- ---- the bytes of a line that are held
 pub take-min : (l : List ℕ) (n k : ℕ) → length l ≡ k → take (min n k) l ≡ take n l

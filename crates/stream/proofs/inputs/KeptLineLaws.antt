@@ -9,7 +9,7 @@ use lib.Dec.{ltb}
 use lib.ListN.{length, take, length-append}
 use lib.Seq.{take-all, take-append-le, length-take-le}
 use Rattle.lines.specs.CommandLine.{numbers}
-use Rattle.lines.proofs.CommandLineLaws.{length-none}
+use Rattle.lines.proofs.columns.CommandLineLaws.{length-none}
 use Rattle.stream.specs.Stream.{pushed}
 
 -- what is kept of a line

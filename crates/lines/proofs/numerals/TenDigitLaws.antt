@@ -5,8 +5,8 @@ use mathlib.Core.List.{List, append-nil}
 use native.Mathlib.Omega.{arith}
 use lib.ListN.{length, set, drop-of-length-le}
 use Rattle.lines.specs.Field.{glyph, lead, written}
-use Rattle.lines.proofs.WriteLaws.{Spelt, spelt-more, spelt-all}
-use Rattle.lines.proofs.NumeralLaws.{glyph-digit, written-lead}
+use Rattle.lines.proofs.numerals.WriteLaws.{Spelt, spelt-more, spelt-all}
+use Rattle.lines.proofs.numerals.NumeralLaws.{glyph-digit, written-lead}
 
 -- the digits of p from column i on
 abbrev pub pair : List ℕ → ℕ → ℕ → List ℕ

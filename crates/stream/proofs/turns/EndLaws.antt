@@ -10,7 +10,7 @@ use Rattle.commands.specs.Model.{Stepped}
 use Rattle.lines.specs.LineMeaning.{NoLineFeed}
 use Rattle.stream.specs.Responses.{lineResponse, answerText}
 use Rattle.stream.specs.Stream.{Held, held, pushed, Fed, byteFed, feedOf}
-use Rattle.stream.proofs.PieceLaws.{feed-append-held, feed-append-text}
+use Rattle.stream.proofs.inputs.PieceLaws.{feed-append-held, feed-append-text}
 
 -- an answered line: its state and its answer line, and no byte of the next
 abbrev pub answered : {S : Type 0} → Stepped S → Fed S

@@ -18,7 +18,7 @@ use Rattle.lines.specs.CommandLine.{numbers}
 use Rattle.stream.specs.Responses.{response, lineResponse}
 use Rattle.stream.specs.Stream.{held, pushed, Fed, byteFed, feedOf}
 use Rattle.stream.specs.Inputs.{LentAsModel}
-use Rattle.stream.proofs.EndLaws.{answered, unanswered}
+use Rattle.stream.proofs.turns.EndLaws.{answered, unanswered}
 
 abbrev behind : {R : Type 0} → List ℕ → Fed R → Fed R
 behind t x = record { held = x .held; text = t ++ x .text }

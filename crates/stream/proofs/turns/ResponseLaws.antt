@@ -13,7 +13,7 @@ use Rattle.sheet.specs.Run.{steppedAt, lentStepAt}
 use Rattle.lines.specs.CommandLine.{numbers}
 use Rattle.stream.specs.Responses.{response, lineResponse, responded, respondOf}
 use Rattle.stream.specs.Turns.{answeredAt, answerFrom}
-use Rattle.stream.proofs.TurnLaws.{step-answered}
+use Rattle.stream.proofs.turns.TurnLaws.{step-answered}
 
 -- ---- the line's answer
 module _ (w line : List ℕ) where

@@ -12,7 +12,7 @@ use Rattle.lines.specs.CommandLine.{numbers}
 use Rattle.stream.specs.Responses.{response, lineResponse, answerText}
 use Rattle.stream.specs.Stream.{held, Fed, byteFed, feedOf}
 use Rattle.stream.specs.Inputs.{Cut, inFront, cut, commandIn, commandsIn, lineAnswered, between, texts}
-use Rattle.stream.proofs.KeptLineLaws.{kept, pushed-kept, numbers-kept}
+use Rattle.stream.proofs.inputs.KeptLineLaws.{kept, pushed-kept, numbers-kept}
 
 -- ---- some lines and the bytes after them
 

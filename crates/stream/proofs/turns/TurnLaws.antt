@@ -16,13 +16,13 @@ use Rattle.sheet.specs.Words.{lentStep}
 use Rattle.commands.specs.Fields.{commandOf}
 use Rattle.sheet.specs.Run.{SteppedAt, steppedAt, lentStepAt}
 use Rattle.lines.specs.CommandLine.{numbers}
-use Rattle.lines.proofs.CommandLineLaws.{length-none}
+use Rattle.lines.proofs.columns.CommandLineLaws.{length-none}
 use Rattle.stream.specs.Responses.{response}
 use Rattle.stream.specs.Stream.{Held, held, consumedOf, fedInto}
 use Rattle.stream.specs.Turns.{answeredAt, answerFrom, IsRun, IsIll, IsByte}
-use Rattle.stream.proofs.ConsumedLaws.{consumed-short, consumed-none}
-use Rattle.stream.proofs.HearLaws.{end-next}
-use Rattle.stream.proofs.FeedLaws.{Feeding, length-feeding, feeding-none, feeding-all, feeding-line, feeding-byte, push-more, push-full}
+use Rattle.stream.proofs.turns.ConsumedLaws.{consumed-short, consumed-none}
+use Rattle.stream.proofs.turns.HearLaws.{end-next}
+use Rattle.stream.proofs.turns.FeedLaws.{Feeding, length-feeding, feeding-none, feeding-all, feeding-line, feeding-byte, push-more, push-full}
 
 -- ---- what `step_at` leaves in six places
 answer-put : (six : List ℕ) (x : ModelAnswer) → length six ≡ 6 → answerFrom (sets six 0 (numbersOf x)) ≡ x

@@ -10,7 +10,7 @@ use lib.ListN.{length, take, drop, length-take, length-drop, drop-of-length-le}
 use lib.Seq.{drop-drop}
 use Rattle.commands.specs.Answers.{ModelAnswer, refused}
 use Rattle.lines.specs.AnswerLine.{answerInto}
-use Rattle.lines.proofs.LineMeaningLaws.{answer-length}
+use Rattle.lines.proofs.columns.LineMeaningLaws.{answer-length}
 use Rattle.stream.specs.Responses.{answerText}
 use Rattle.stream.specs.Stream.{endOf, endedOf}
 use Rattle.stream.specs.Turns.{answeredAt}

@@ -10,7 +10,7 @@ use lib.ListN.{length, getD, take, drop, length-drop, drop-of-length-le}
 use lib.Seq.{take-suc, getD-drop, drop-cons}
 use Rattle.lines.specs.CommandLine.{numbers, readInto, isRead, placesAfter}
 use Rattle.lines.specs.LineMeaning.{NoLineFeed}
-use Rattle.lines.proofs.LineMeaningLaws.{well-formed-whole}
+use Rattle.lines.proofs.columns.LineMeaningLaws.{well-formed-whole}
 use Rattle.stream.specs.Turns.{Ends, IsRun}
 
 -- ---- the numbers of a line, in seven lent places

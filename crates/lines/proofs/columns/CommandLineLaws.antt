@@ -10,7 +10,7 @@ use lib.ListN.{length, drop}
 use Rattle.lines.specs.declared.field.Reading.the-variants.{Value}
 use Rattle.lines.specs.Columns.{fieldAt, both, numbersAt}
 use Rattle.lines.specs.CommandLine.{widths, numbers, readInto, isRead, placesAfter}
-use Rattle.lines.proofs.ReadLaws.{cond-same}
+use Rattle.lines.proofs.numerals.ReadLaws.{cond-same}
 
 -- the promise where nothing is read
 abbrev NotRead : List ℕ → List ℕ → Type 0

@@ -13,7 +13,7 @@ use lib.Seq.{drop-cons, take-all}
 use Rattle.lines.specs.declared.field.Reading.the-variants.{Ill}
 use Rattle.lines.specs.Field.{digits, isDigit, decimal, valueFrom, limit, value, leadingZero}
 use Rattle.lines.specs.ColumnParts.{limited, DigitValue}
-use Rattle.lines.proofs.FieldMeaningLaws.{digit-is, no-digit}
+use Rattle.lines.proofs.numerals.FieldMeaningLaws.{digit-is, no-digit}
 
 -- ---- blanks
 

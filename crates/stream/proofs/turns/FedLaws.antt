@@ -7,7 +7,7 @@ use lib.ListN.{length, take, drop, length-append, length-drop}
 use Rattle.commands.specs.declared.command.Command.{Command}
 use Rattle.commands.specs.Model.{Stepped}
 use Rattle.stream.specs.Stream.{Held, feedOf, consumedOf, FedInto, fedInto}
-use Rattle.stream.proofs.ConsumedLaws.{consumed-le, some-consumed}
+use Rattle.stream.proofs.turns.ConsumedLaws.{consumed-le, some-consumed}
 
 module _ {S : Type 0} (step : S → Command → Stepped S) (h : Held S) (bytes out : List ℕ) (o : FedInto S) (e : o ≡ fedInto step h bytes out) where
   consumed : o .consumed ≡ consumedOf (length out) bytes

@@ -14,8 +14,8 @@ use Rattle.commands.proofs.ClaimLaws.{model-claim}
 use Rattle.stream.specs.Responses.{answerText}
 use Rattle.stream.specs.Stream.{endOf}
 use Rattle.stream.specs.Inputs.{cut, commandsIn, between, texts, fed, lastAnswer, InputsAnswered}
-use Rattle.stream.proofs.KeptLineLaws.{kept}
-use Rattle.stream.proofs.LineFeedLaws.{input-fed}
+use Rattle.stream.proofs.inputs.KeptLineLaws.{kept}
+use Rattle.stream.proofs.inputs.LineFeedLaws.{input-fed}
 
 texts-append : (xs ys : List ModelAnswer) → texts (xs ++ ys) ≡ texts xs ++ texts ys
 unfolding texts

@@ -21,10 +21,10 @@ use Rattle.stream.specs.Responses.{answerText}
 use Rattle.stream.specs.Inputs.{cut, commandsIn}
 use Rattle.stream.specs.Calls.{Calls, feed, short, ended, Answered, CallsAnswered, FreshAnswered, FreshCallsAnswered}
 use Rattle.sheet.proofs.WordLaws.{zeros-long, zeros-fresh}
-use Rattle.stream.proofs.AnswerLaws.{length-text}
-use Rattle.stream.proofs.PieceLaws.{feed-append-held, feed-append-text}
-use Rattle.stream.proofs.InputLaws.{inputs-answered}
-use Rattle.stream.proofs.LentFeedLaws.{lent-as-model}
+use Rattle.stream.proofs.turns.AnswerLaws.{length-text}
+use Rattle.stream.proofs.inputs.PieceLaws.{feed-append-held, feed-append-text}
+use Rattle.stream.proofs.inputs.InputLaws.{inputs-answered}
+use Rattle.stream.proofs.inputs.LentFeedLaws.{lent-as-model}
 
 -- what an input comes to, by any way of doing one command: what is written, with the answer line of its end, and the state after it
 pub record AllFed {S : Type 0} (step : S → Command → Stepped S) (h : Held S) (input output : List ℕ) (end : S) : Type 0 where

@@ -20,7 +20,7 @@ use Rattle.lines.specs.CommandLine.{numbers}
 use Rattle.stream.specs.Responses.{response, lineResponse, answerText, Responded, responded, respondOf}
 use Rattle.stream.specs.Lives.{LineCall, RespondKept, LineCalls, start, next, Short, Shows, Life, over, short, ill, runs, Lived, LivesRun, FreshLivesRun}
 use Rattle.sheet.proofs.WordLaws.{zeros-long, zeros-fresh}
-use Rattle.stream.proofs.ResponseLaws.{respond-short}
+use Rattle.stream.proofs.turns.ResponseLaws.{respond-short}
 
 -- ---- one call
 module _ (w : List ℕ) (c : LineCall) (e : RespondKept w c) where

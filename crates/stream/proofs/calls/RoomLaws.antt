@@ -14,8 +14,8 @@ use Rattle.sheet.specs.Words.{lentStep}
 use Rattle.stream.specs.Responses.{lineResponse, answerText}
 use Rattle.stream.specs.Stream.{Held, held, pushed, byteFed, feedOf, consumedOf, FedInto, fedInto, textOf, fedBy}
 use Rattle.stream.specs.Calls.{CallsConsume}
-use Rattle.stream.proofs.AnswerLaws.{length-text}
-use Rattle.stream.proofs.FedLaws.{consumed-part}
+use Rattle.stream.proofs.turns.AnswerLaws.{length-text}
+use Rattle.stream.proofs.turns.FedLaws.{consumed-part}
 
 -- the answer lines of the bytes that are consumed fit, and where a byte is left no further one does
 record Used (room consumed count produced : ℕ) : Type 0 where

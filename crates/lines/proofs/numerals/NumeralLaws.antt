@@ -9,7 +9,7 @@ use borrow.Author.Tests.{ne-eqb, le-leb}
 use lib.ListN.{getD, replicate, length-append, List·getD-append, replicate-append-replicate}
 use Rattle.lines.specs.Field.{isDigit, decimal, valueFrom, glyph, lead, written}
 use Rattle.lines.specs.FieldMeaning.{Numeral}
-use Rattle.lines.proofs.FieldMeaningLaws.{both-true}
+use Rattle.lines.proofs.numerals.FieldMeaningLaws.{both-true}
 
 -- ---- columns before the last
 

@@ -11,7 +11,7 @@ use Rattle.lines.specs.declared.field.Reading.the-variants.{Value, Ill}
 use Rattle.lines.specs.Field.{digits, number, written}
 use Rattle.lines.specs.Columns.{fieldAt, both, numbersAt, text}
 use Rattle.lines.specs.ColumnParts.{putField}
-use Rattle.lines.proofs.WriteLaws.{length-written}
+use Rattle.lines.proofs.numerals.WriteLaws.{length-written}
 
 -- ---- reading
 

@@ -12,8 +12,8 @@ use Rattle.lines.specs.declared.field.Reading.the-variants.{Value, Ill}
 use Rattle.lines.specs.Field.{digits, isDigit, decimal, valueFrom, value, leadingZero, number}
 use Rattle.lines.specs.FieldMeaning.{Numeral}
 use Rattle.lines.specs.ColumnParts.{bit}
-use Rattle.lines.proofs.FieldMeaningLaws.{digit-is, and-false, numeral-read}
-use Rattle.lines.proofs.ReadLaws.{cond-same}
+use Rattle.lines.proofs.numerals.FieldMeaningLaws.{digit-is, and-false, numeral-read}
+use Rattle.lines.proofs.numerals.ReadLaws.{cond-same}
 
 -- ---- the part after the blanks
 

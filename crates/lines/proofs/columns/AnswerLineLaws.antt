@@ -11,7 +11,7 @@ use lib.Seq.{drop-cons, set-at}
 use Rattle.lines.specs.Columns.{text}
 use Rattle.lines.specs.ColumnParts.{putField}
 use Rattle.lines.specs.AnswerLine.{widths, answerLine, answerInto}
-use Rattle.lines.proofs.ColumnLaws.{put-fields, length-text}
+use Rattle.lines.proofs.columns.ColumnLaws.{put-fields, length-text}
 
 module _ (refusal row kind x y z : ℕ) where
   abbrev six : List ℕ

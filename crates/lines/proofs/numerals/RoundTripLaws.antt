@@ -11,9 +11,9 @@ use lib.Dec.{eqb}
 use lib.ListN.{length, replicate, length-append, length-replicate}
 use Rattle.lines.specs.Field.{isDigit, decimal, valueFrom, lead, written}
 use Rattle.lines.specs.FieldMeaning.{Numeral, IsField, ReadBack, ReadBack3, ReadBack11, WrittenBack}
-use Rattle.lines.proofs.ReadLaws.{value-grows}
-use Rattle.lines.proofs.FieldMeaningLaws.{digit-range, both-true, field-read, read-field}
-use Rattle.lines.proofs.NumeralLaws.{glyph-digit, lead-zero, written-lead, numeral-one, numeral-more}
+use Rattle.lines.proofs.numerals.ReadLaws.{value-grows}
+use Rattle.lines.proofs.numerals.FieldMeaningLaws.{digit-range, both-true, field-read, read-field}
+use Rattle.lines.proofs.numerals.NumeralLaws.{glyph-digit, lead-zero, written-lead, numeral-one, numeral-more}
 
 -- ---- what is written is a field
 
