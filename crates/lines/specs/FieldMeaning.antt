@@ -33,15 +33,9 @@ pub record HasRoom (w n : ℕ) : Type 0 where
   pub room : n < 10 ^ w
   pub fits : n ≤ 4294967295
 
--- reading a written field gives the number back; so in three columns up to 999, and in eleven up to the limit
+-- reading a written field gives the number back, whatever the width
 abbrev pub ReadBack : Type 0
 ReadBack = (w n : ℕ) → HasRoom w n → number (digits (written w n)) ≡ Value n
-
-abbrev pub ReadBack3 : Type 0
-ReadBack3 = (n : ℕ) → n ≤ 999 → number (digits (written 3 n)) ≡ Value n
-
-abbrev pub ReadBack11 : Type 0
-ReadBack11 = (n : ℕ) → n ≤ 4294967295 → number (digits (written 11 n)) ≡ Value n
 
 -- writing the number that a field gives gives its bytes back
 abbrev pub WrittenBack : Type 0

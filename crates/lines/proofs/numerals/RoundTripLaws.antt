@@ -10,7 +10,7 @@ use borrow.Author.Tests.{eqb-true, eqb-false}
 use lib.Dec.{eqb}
 use lib.ListN.{length, replicate, length-append, length-replicate}
 use Rattle.lines.specs.Field.{isDigit, decimal, valueFrom, lead, written}
-use Rattle.lines.specs.FieldMeaning.{Numeral, IsField, ReadBack, ReadBack3, ReadBack11, WrittenBack}
+use Rattle.lines.specs.FieldMeaning.{Numeral, IsField, ReadBack, WrittenBack}
 use Rattle.lines.proofs.numerals.ReadLaws.{value-grows}
 use Rattle.lines.proofs.numerals.FieldMeaningLaws.{digit-range, both-true, field-read, read-field}
 use Rattle.lines.proofs.numerals.NumeralLaws.{glyph-digit, lead-zero, written-lead, numeral-one, numeral-more}
@@ -48,12 +48,6 @@ written-field (suc w) n r s = go (λ t. written-field w (n / 10) t (omega arith)
 pub read-back : ReadBack
 read-back zero n h = absurd (omega (arith, h .some-column))
 read-back (suc w) n h = field-read (written (suc w) n) n (written-field w n (h .room) (h .fits))
-
-pub read-back-3 : ReadBack3
-read-back-3 n h = read-back 3 n (record { some-column = omega arith; room = omega arith; fits = omega arith })
-
-pub read-back-11 : ReadBack11
-read-back-11 n h = read-back 11 n (record { some-column = omega arith; room = omega arith; fits = h })
 
 -- ---- a field is what is written
 
