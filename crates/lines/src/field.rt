@@ -113,6 +113,10 @@ pub fn put_number(field: &mut [u8], n: u32)
             return;
         }
     }
+    if n < 10 {
+        put_digit(field, n);
+        return;
+    }
     let mut i = w - 1;
     field[i] = b'0' + (n % 10) as u8;
     let mut rest = n / 10;
@@ -121,6 +125,20 @@ pub fn put_number(field: &mut [u8], n: u32)
         field[i] = glyph(rest);
         rest = rest / 10;
     }
+}
+
+// Writes a number of one digit after blanks: unused values of an answer are 0, and refusals and kinds have one digit.
+fn put_digit(field: &mut [u8], n: u32)
+    requires { ⌜ (0 < length (now field)) × (n < 10) ⌝ }
+    ensures { λ _. ⌜ now (field .exit) ≡ Field.written (length (now (field .entry))) n ⌝ }
+{
+    let last = field.len() - 1;
+    let mut i: usize = 0;
+    while i < last {
+        field[i] = b' ';
+        i += 1;
+    }
+    field[last] = b'0' + n as u8;
 }
 
 // The last digit of what is left of a number, or a blank where nothing is left.

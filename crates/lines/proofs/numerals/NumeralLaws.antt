@@ -6,7 +6,8 @@ use mathlib.Core.List.{List, [], _∷_, _++_}
 use native.Mathlib.Omega.{arith}
 use native.Mathlib.Numerals.{add-one}
 use borrow.Author.Tests.{ne-eqb, le-leb}
-use lib.ListN.{getD, replicate, length-append, List·getD-append, replicate-append-replicate}
+use lib.ListN.{length, getD, set, drop, replicate, length-append, length-replicate, drop-of-length-le, List·getD-append, replicate-append-replicate}
+use lib.Seq.{drop-cons, set-at}
 use Rattle.lines.specs.Field.{isDigit, decimal, valueFrom, glyph, lead, written}
 use Rattle.lines.specs.FieldMeaning.{Numeral}
 use Rattle.lines.proofs.numerals.FieldMeaningLaws.{both-true}
@@ -26,6 +27,17 @@ pub written-lead : (w n : ℕ) → 0 < n → written w n ≡ lead w n
 unfolding written lead
 written-lead zero n p = refl
 written-lead (suc w) n p = rw (glyph-digit n p) refl
+
+-- one digit after blanks: the last of the columns is written over blanks before it
+pub digit-written : (f l : List ℕ) (n i : ℕ) → length f ≡ i + 1 → l ≡ replicate i 32 ++ drop i f → n < 10 → set l i (48 + n) ≡ written (length f) n
+unfolding written
+digit-written f l n i e q h =
+    let lt : i < length f = omega arith in
+    let le : length f ≤ i + 1 = omega arith in
+    let first : n / 10 ≡ 0 = omega arith in
+    let second : n % 10 ≡ n = omega arith in
+    let none : drop (suc i) f ≡ [] = drop-of-length-le f (rw (add-one i) at le) in
+    rw (q, drop-cons f i 0 lt, none, e, add-one i, first, second, lead-zero i) (set-at (replicate i 32) (getD f i 0) [] (48 + n) i (length-replicate i 32))
 
 -- ---- numerals
 

@@ -1,4 +1,5 @@
--- `lines::field::digits` meets its contract. Assumes nothing.
+-- `lines::field::digits` meets its contract. Invariant: the first i columns are blanks, so that the digits are those of the columns from i on; measure: the columns
+-- that are left. Assumes nothing.
 use Prim.Native.Nat.{_-_, _≤_}
 use native.Mathlib.Omega.{arith}
 use mathlib.Core.Path.{_≡_, refl, sym, _∙_}

@@ -1,4 +1,5 @@
--- `lines::field::put_number` meets its contract. Assumes nothing.
+-- `lines::field::put_number` meets its contract. Invariant (`Spelt`): the columns from i on are written, and `rest` is what is left of the number for those before
+-- them; measure: i. Assumes nothing.
 use borrow.Author.Needs.{needs}
 use native.Mathlib.Omega.{arith}
 use mathlib.Core.Path.{_≡_, refl, ap, _∙_}
@@ -22,6 +23,12 @@ returns-2 c = rw (c .before .before .before .before .before .if2 .taken) (c .bef
 same-length : tie.Need-same-length Inv-loop μ-loop
 same-length c = ap length (returns-2 c) ∙ length-written _ _
 
+returns-3 : tie.Need-returns-3 Inv-loop μ-loop
+returns-3 c = c .before .before .put-digit .ensures
+
+same-length-2 : tie.Need-same-length-2 Inv-loop μ-loop
+same-length-2 c = ap length (returns-3 c) ∙ length-written _ _
+
 sub-i : tie.Need-sub-i Inv-loop μ-loop
 sub-i c = omega arith
 
@@ -35,7 +42,7 @@ slice-write-field : tie.Need-slice-write-field Inv-loop μ-loop
 slice-write-field c = omega arith
 
 loop-holds : tie.Need-loop-holds Inv-loop μ-loop
-loop-holds c = (simp length-set, spelt-one (c .before .before .before .args .field .now) (c .before .before .before .args .n) _ refl (omega arith))
+loop-holds c = (simp length-set, spelt-one (c .before .before .before .before .args .field .now) (c .before .before .before .before .args .n) _ refl (omega arith))
 
 sub-i-2 : tie.Need-sub-i-2 Inv-loop μ-loop
 sub-i-2 c = omega arith
@@ -49,11 +56,11 @@ loop-less c = omega arith
 loop-again : tie.Need-loop-again Inv-loop μ-loop
 loop-again c = (c .before .before .loop .inv .0, rw (c .glyph .ensures) (spelt-more _ _ _ _ _ (c .before .before .loop .inv .1) (c .before .loop-test .taken)))
 
-same-length-2 : tie.Need-same-length-2 Inv-loop μ-loop
-same-length-2 c = c .before .loop .inv .1 .long
+same-length-3 : tie.Need-same-length-3 Inv-loop μ-loop
+same-length-3 c = c .before .loop .inv .1 .long
 
-returns-3 : tie.Need-returns-3 Inv-loop μ-loop
-returns-3 c = spelt-all _ _ _ _ _ (c .before .loop .inv .1) (c .loop-test .left)
+returns-4 : tie.Need-returns-4 Inv-loop μ-loop
+returns-4 c = spelt-all _ _ _ _ _ (c .before .loop .inv .1) (c .loop-test .left)
 
 pub put-number-spec : {M : Type 1} → statement M
 put-number-spec =
@@ -65,6 +72,9 @@ put-number-spec =
     (λ c κs. search needs)
     same-length
     returns-2
+    (λ c κs. search needs)
+    same-length-2
+    returns-3
     sub-i
     cast-field
     add-field
@@ -75,5 +85,5 @@ put-number-spec =
     slice-write-field-2
     loop-less
     loop-again
-    same-length-2
-    returns-3)
+    same-length-3
+    returns-4)

@@ -1,4 +1,4 @@
--- `lines::field::value` meets its contract. The first i digits are read and gave n; each turn leaves fewer digits. Assumes nothing.
+-- `lines::field::value` meets its contract. Invariant: the first i digits are read and gave n; measure: the digits that are left. Assumes nothing.
 use Prim.Native.Nat.{_-_, _<_}
 use mathlib.Core.Path.{_∙_}
 use native.Mathlib.Omega.{arith}
