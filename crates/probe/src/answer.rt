@@ -37,7 +37,7 @@ pub(crate) fn refused(refusal: u32, count: usize) -> Answer
 }
 
 // The answer to a call that is not refused.
-pub(crate) fn done(count: usize, results: [u32; 6]) -> Answer
+pub(crate) fn given(count: usize, results: [u32; 6]) -> Answer
     requires { ⌜ count ≤ 6 ⌝ }
     ensures { λ r. ⌜ Gives 0 count results r ⌝ }
 {
@@ -87,32 +87,14 @@ fn put_number(out: &mut [u8], at: usize, n: u32) -> usize
 fn digits(n: u32) -> usize
     ensures { λ r. ⌜ r ≤ 10 ⌝ }
 {
-    if n >= 1_000_000_000 {
-        return 10;
+    let mut count: usize = 1;
+    let mut rest = n / 10;
+    while 0 < rest {
+        if count == 10 {
+            return 10;
+        }
+        count += 1;
+        rest = rest / 10;
     }
-    if n >= 100_000_000 {
-        return 9;
-    }
-    if n >= 10_000_000 {
-        return 8;
-    }
-    if n >= 1_000_000 {
-        return 7;
-    }
-    if n >= 100_000 {
-        return 6;
-    }
-    if n >= 10_000 {
-        return 5;
-    }
-    if n >= 1000 {
-        return 4;
-    }
-    if n >= 100 {
-        return 3;
-    }
-    if n >= 10 {
-        return 2;
-    }
-    1
+    count
 }

@@ -1,14 +1,16 @@
 // Answers each call line of standard input: a function's number and its arguments.
 mod answer;
 mod call;
-mod elements;
+mod flags;
 mod forms;
 mod functions;
 mod lengths;
 mod masks;
-mod motions;
+mod others;
 mod scalars;
 mod signs;
+mod vectors;
+mod wholes;
 
 ghost use Prim.Native.Nat.{_+_, _≤_, _<_};
 ghost use lib.ListN.{length};
