@@ -3,6 +3,7 @@ ghost use Prim.Native.Nat.{_+_, _≤_};
 ghost use lib.ListN.{length};
 ghost use Rattle.probe.specs.Bounds.{longest};
 ghost use Rattle.probe.specs.Shows.{Gives, one};
+use lines::field::put_number;
 
 // The refusals.
 pub(crate) const NONE: u32 = 0;
@@ -49,37 +50,31 @@ pub(crate) fn given(count: usize, results: [u32; 6]) -> Answer
 }
 
 // Writes the answer's line from `at` on, and gives the place behind it.
-pub(crate) fn put_answer(out: &mut [u8], at: usize, answer: Answer) -> usize
+pub(crate) fn put_line(out: &mut [u8], at: usize, answer: Answer) -> usize
     requires { ⌜ at + longest ≤ length (now out) ⌝ }
     requires { ⌜ answer .count ≤ 6 ⌝ }
     ensures { λ r. ⌜ r ≤ at + longest ⌝ }
 {
     let count = answer.count;
-    let mut end = put_number(out, at, answer.refusal);
+    let mut end = put_digits(out, at, answer.refusal);
     let mut i: usize = 0;
     while i < count {
         let n = answer.results[i];
         out[end] = b' ';
-        end = put_number(out, end + 1, n);
+        end = put_digits(out, end + 1, n);
         i += 1;
     }
     out[end] = b'\n';
     end + 1
 }
 
-// Writes the number from `at` on, and gives the place behind it.
-fn put_number(out: &mut [u8], at: usize, n: u32) -> usize
+// Writes the number from `at` on, in as many bytes as it has digits, and gives the place behind it.
+fn put_digits(out: &mut [u8], at: usize, n: u32) -> usize
     requires { ⌜ at + 10 ≤ length (now out) ⌝ }
     ensures { λ r. ⌜ r ≤ at + 10 ⌝ }
 {
     let end = at + digits(n);
-    let mut i = end;
-    let mut rest = n;
-    while at < i {
-        i -= 1;
-        out[i] = b'0' + (rest % 10) as u8;
-        rest = rest / 10;
-    }
+    put_number(&mut out[at..end], n);
     end
 }
 

