@@ -14,9 +14,6 @@ pub(crate) const UNKNOWN: u32 = 2;
 
 pub(crate) const INDEX: u32 = 10;
 
-// The most bytes of a line, `longest` of specs/.
-pub(crate) const LONGEST: usize = 77;
-
 // The refusal, and the first `count` of the results.
 pub(crate) struct Answer {
     pub refusal: u32,

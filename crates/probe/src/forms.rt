@@ -16,7 +16,11 @@ use vector::vec3::Vec3;
 pub(crate) fn vector_of(x: u32, y: u32, z: u32) -> Vec3
     ensures { λ r. ⌜ r ≡ Signs.ofPatterns x y z ⌝ }
 {
-    Vec3::new(from_bits(x), from_bits(y), from_bits(z))
+    Vec3 {
+        x: from_bits(x),
+        y: from_bits(y),
+        z: from_bits(z),
+    }
 }
 
 // The vector and the mask whose first value has the place `at`, 1 to 7.
@@ -35,7 +39,11 @@ pub(crate) fn mask_at(values: &[u32; 10], at: usize) -> BVec3
     let x = values[at];
     let y = values[at + 1];
     let z = values[at + 2];
-    BVec3::new(x != 0, y != 0, z != 0)
+    BVec3 {
+        x: x != 0,
+        y: y != 0,
+        z: z != 0,
+    }
 }
 
 // The answer of a function that gives a float, a bool, a whole number, and so on.
@@ -48,7 +56,7 @@ pub(crate) fn float(x: f32) -> Answer
 pub(crate) fn flag(b: bool) -> Answer
     ensures { λ r. ⌜ Gives 0 1 (one (Masks.bit b)) r ⌝ }
 {
-    whole(bit(b))
+    whole(b as u32)
 }
 
 pub(crate) fn whole(n: u32) -> Answer
@@ -60,17 +68,11 @@ pub(crate) fn whole(n: u32) -> Answer
 pub(crate) fn mask(m: BVec3) -> Answer
     ensures { λ r. ⌜ r .count ≤ 6 ⌝ }
 {
-    given(3, [bit(m.x), bit(m.y), bit(m.z), 0, 0, 0])
+    given(3, [m.x as u32, m.y as u32, m.z as u32, 0, 0, 0])
 }
 
 pub(crate) fn vector(v: Vec3) -> Answer
     ensures { λ r. ⌜ r .count ≤ 6 ⌝ }
 {
     given(3, [to_bits(v.x), to_bits(v.y), to_bits(v.z), 0, 0, 0])
-}
-
-pub(crate) fn bit(b: bool) -> u32
-    ensures { λ r. ⌜ r ≡ Masks.bit b ⌝ }
-{
-    if b { 1 } else { 0 }
 }

@@ -12,13 +12,11 @@ mod signs;
 mod vectors;
 mod wholes;
 
-ghost use Prim.Native.Nat.{_+_, _≤_, _<_};
-ghost use mathlib.Core.Bool.{true};
-ghost use mathlib.Core.Logic.{_⊎_};
+ghost use Prim.Native.Nat.{_*_, _≤_};
 ghost use mathlib.Core.Path.{_≡_};
 ghost use lib.ListN.{length};
 ghost use Rattle.probe.specs.Bounds.{longest};
-use answer::LONGEST;
+use answer::Answer;
 use answer::MALFORMED;
 use answer::put_line;
 use answer::refused;
@@ -30,12 +28,8 @@ use libc::STDERR_FILENO;
 use libc::STDIN_FILENO;
 use libc::STDOUT_FILENO;
 
-// The line that has not ended, how many bytes were consumed, and how many bytes of answers were produced.
-struct Progress {
-    call: Call,
-    consumed: usize,
-    produced: usize,
-}
+// How many bytes are read at a time: as many longest lines fit a buffer of 65,536 bytes.
+const CHUNK: usize = 851;
 
 // The line that has not ended, how many bytes were consumed, and whether to read on.
 struct Turn {
@@ -44,95 +38,42 @@ struct Turn {
     goes_on: bool,
 }
 
-// Writes the answer to a line that ended, and gives the place behind it.
-fn put_ended(call: Call, values: &mut [u32; 10], out: &mut [u8], at: usize) -> usize
-    requires { ⌜ at + longest ≤ length (now out) ⌝ }
-    ensures { λ r. ⌜ r ≤ at + longest ⌝ }
+// The answer to a line that ended.
+fn answer_of(call: Call, values: &mut [u32; 10]) -> Answer
+    ensures { λ r. ⌜ r .count ≤ 6 ⌝ }
 {
     let field = call.field;
     let Field::Number(n) = field else {
-        return put_line(out, at, refused(MALFORMED, 0));
+        return refused(MALFORMED, 0);
     };
     let count = kept(values, call.count, n);
-    put_line(out, at, answer_to(values, count))
+    answer_to(values, count)
 }
 
-// Takes bytes while there is room for an answer: all of them, or as many as fill `out`.
-fn take(call: Call, values: &mut [u32; 10], bytes: &[u8], out: &mut [u8]) -> Progress
-    requires { ⌜ (0 < length (now bytes)) × (longest ≤ length (now out)) ⌝ }
-    ensures { λ r. ⌜ (0 < r .consumed) × (r .consumed ≤ length (now (bytes .entry))) ⌝ }
-    ensures { λ r. ⌜ r .produced ≤ length (now (out .entry)) ⌝ }
-    ensures { λ r. ⌜ (r .consumed ≡ length (now (bytes .entry))) ⊎ (length (now (out .entry)) < r .produced + longest) ⌝ }
+// Answers the lines that end in the bytes.
+fn answer_all(call: Call, values: &mut [u32; 10], bytes: &[u8], out: &mut [u8]) -> Turn
+    requires { ⌜ length (now bytes) * longest ≤ length (now out) ⌝ }
+    ensures { λ r. ⌜ r .consumed ≡ length (now (bytes .entry)) ⌝ }
 {
     let mut line = call;
     let mut produced: usize = 0;
     let mut i: usize = 0;
     while i < bytes.len() {
         let byte = bytes[i];
+        i += 1;
         if byte != b'\n' {
             line = line.with(byte, values);
-            i += 1;
             continue;
         }
-        if out.len() - produced < LONGEST {
-            break;
-        }
-        produced = put_ended(line, values, out, produced);
+        produced = put_line(out, produced, answer_of(line, values));
         line = Call::fresh();
-        i += 1;
     }
-    Progress {
-        call: line,
-        consumed: i,
-        produced: produced,
-    }
-}
-
-// Answers the lines that end in the bytes, in as many turns as the answers need room. A turn that goes on has consumed all bytes.
-fn answer_all(call: Call, values: &mut [u32; 10], bytes: &[u8], out: &mut [u8]) -> Turn
-    requires { ⌜ longest ≤ length (now out) ⌝ }
-    ensures { λ r. ⌜ r .consumed ≤ length (now (bytes .entry)) ⌝ }
-    ensures { λ r. ⌜ (r .«goes_on» ≡ true → r .consumed ≡ length (now (bytes .entry))) ⌝ }
-{
-    let mut line = call;
-    let mut at: usize = 0;
-    while at < bytes.len() {
-        let p = take(line, values, &bytes[at..], out);
-        line = p.call;
-        at += p.consumed;
-        let produced = p.produced;
-        if write(&out[..produced]) {
-            continue;
-        }
-        return Turn {
-            call: line,
-            consumed: at,
-            goes_on: false,
-        };
-    }
+    let goes_on = write(&out[..produced]);
     Turn {
         call: line,
-        consumed: at,
-        goes_on: true,
+        consumed: i,
+        goes_on: goes_on,
     }
-}
-
-// Reads once, and writes the answers to the lines that ended.
-fn read_once(call: Call, values: &mut [u32; 10], chunk: &mut [u8], out: &mut [u8]) -> Turn
-    requires { ⌜ longest ≤ length (now out) ⌝ }
-    ensures { λ r. ⌜ r .consumed ≤ length (now (chunk .entry)) ⌝ }
-{
-    let got = libc::read(STDIN_FILENO, chunk);
-    if got <= 0 {
-        end(call, got < 0);
-        return Turn {
-            call: call,
-            consumed: 0,
-            goes_on: false,
-        };
-    }
-    let n = io::count(got, chunk);
-    answer_all(call, values, &chunk[..n], out)
 }
 
 // Answers the bytes behind the last line feed, which are malformed, or says that the input could not be read.
@@ -164,12 +105,18 @@ fn report(message: &[u8]) {
 fn main() {
     let mut call = Call::fresh();
     let mut values = [0u32; 10];
-    let mut chunk = [0u8; 65536];
-    let mut out = [0u8; 65536];
+    let mut chunk = [0u8; CHUNK];
+    let mut out = io::large_buffer();
     let mut turns = u64::MAX;
     while 0 < turns {
         turns -= 1;
-        let t = read_once(call, &mut values, &mut chunk, &mut out);
+        let got = libc::read(STDIN_FILENO, &mut chunk);
+        if got <= 0 {
+            end(call, got < 0);
+            return;
+        }
+        let n = io::count(got, &chunk);
+        let t = answer_all(call, &mut values, &chunk[..n], &mut out);
         if !t.goes_on {
             return;
         }

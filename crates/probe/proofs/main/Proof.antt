@@ -6,7 +6,7 @@ use Rattle.probe.proofs.main.Statement.{statement}
 use Rattle.probe.proofs.main.Tie as tie
 
 abbrev Inv-loop : tie.InvT-loop
-Inv-loop call₀ values₀ chunk₀ out₀ turns₀ call values chunk out turns = (65536 ≡ length chunk) × (65536 ≡ length out)
+Inv-loop call₀ values₀ chunk₀ out₀ turns₀ call values chunk out turns = (851 ≡ length chunk) × (65536 ≡ length out)
 
 abbrev μ-loop : tie.MeasureT-loop
 μ-loop call₀ values₀ chunk₀ out₀ turns₀ call values chunk out turns = turns
@@ -18,7 +18,15 @@ main-spec =
     Inv-loop
     μ-loop
     (λ c κs. search needs)
+    (λ c κs. search needs)
     (λ c. search needs)
+    (λ c. search needs)
+    (λ c. search needs)
+    (λ c κs. search needs)
+    (λ c κs. search needs)
+    (λ c. search needs)
+    (λ c. search needs)
+    (λ c κs. search needs)
     (λ c. search needs)
     (λ c. search needs)
     (λ c. search needs)
