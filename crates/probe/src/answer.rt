@@ -56,9 +56,8 @@ pub(crate) fn put_line(out: &mut [u8], at: usize, answer: Answer) -> usize
     let mut end = put_digits(out, at, answer.refusal);
     let mut i: usize = 0;
     while i < count {
-        let n = answer.results[i];
         out[end] = b' ';
-        end = put_digits(out, end + 1, n);
+        end = put_digits(out, end + 1, answer.results[i]);
         i += 1;
     }
     out[end] = b'\n';

@@ -74,5 +74,23 @@ pub(crate) fn mask(m: BVec3) -> Answer
 pub(crate) fn vector(v: Vec3) -> Answer
     ensures { λ r. ⌜ r .count ≤ 6 ⌝ }
 {
-    given(3, [to_bits(v.x), to_bits(v.y), to_bits(v.z), 0, 0, 0])
+    floats(3, v, Vec3::ZERO)
+}
+
+// The answer of `count` floats, the components of a and then of b.
+pub(crate) fn floats(count: usize, a: Vec3, b: Vec3) -> Answer
+    requires { ⌜ count ≤ 6 ⌝ }
+    ensures { λ r. ⌜ r .count ≤ 6 ⌝ }
+{
+    given(
+        count,
+        [
+            to_bits(a.x),
+            to_bits(a.y),
+            to_bits(a.z),
+            to_bits(b.x),
+            to_bits(b.y),
+            to_bits(b.z),
+        ],
+    )
 }

@@ -13,32 +13,29 @@ use crate::forms::mask_at;
 use crate::forms::vector;
 use crate::forms::vector_at;
 use crate::forms::whole;
-use crate::lengths;
 use crate::masks;
+use crate::numbers;
 use crate::others;
-use crate::scalars;
 use crate::signs;
 use crate::vectors;
 use crate::wholes;
 
 // The groups of functions by what they take and give, the hundreds of a shape. Those of no other group are the last.
-const SCALAR: u16 = 1;
+const NUMBER: u16 = 1;
 
-const LENGTH: u16 = 2;
+const FLAG: u16 = 2;
 
-const FLAG: u16 = 3;
+const WHOLE: u16 = 3;
 
-const WHOLE: u16 = 4;
+const MASK: u16 = 4;
 
-const MASK: u16 = 5;
+const VECTOR_OF_ONE: u16 = 5;
 
-const VECTOR_OF_ONE: u16 = 6;
+const VECTOR_OF_TWO: u16 = 6;
 
-const VECTOR_OF_TWO: u16 = 7;
+const VECTOR_OF_MORE: u16 = 7;
 
-const VECTOR_OF_MORE: u16 = 8;
-
-const SIGN: u16 = 9;
+const SIGN: u16 = 8;
 
 // The shape of each number's function, and 0 where there is none: its ones are how many arguments it takes, its tens how many of these, at the front, are
 // bools, and its hundreds its group.
@@ -50,15 +47,15 @@ const SHAPES: [u16; 120] = [
     101, // 4: floor
     101, // 5: round
     101, // 6: abs
-    902, // 7: copysign
+    802, // 7: copysign
     101, // 8: signum
     102, // 9: rem
     102, // 10: div_euclid
     102, // 11: rem_euclid
     101, // 12: acos_approx
-    301, // 13: is_finite
-    301, // 14: is_nan
-    901, // 15: is_sign_negative
+    201, // 13: is_finite
+    201, // 14: is_nan
+    801, // 15: is_sign_negative
     0,
     0,
     0,
@@ -73,96 +70,96 @@ const SHAPES: [u16; 120] = [
     0,
     0,
     0,
-    533, // 30: BVec3::new
-    511, // 31: BVec3::splat
-    1034, // 32: BVec3::test
-    433, // 33: BVec3::bitmask
-    566, // 34: BVec3::and
-    566, // 35: BVec3::or
-    533, // 36: BVec3::not
+    433, // 30: BVec3::new
+    411, // 31: BVec3::splat
+    934, // 32: BVec3::test
+    333, // 33: BVec3::bitmask
+    466, // 34: BVec3::and
+    466, // 35: BVec3::or
+    433, // 36: BVec3::not
     0,
     0,
     0,
-    603, // 40: new
-    801, // 41: splat
-    839, // 42: select
-    206, // 43: dot
-    706, // 44: cross
-    706, // 45: min
-    706, // 46: max
-    809, // 47: clamp
-    203, // 48: min_element
-    203, // 49: max_element
-    403, // 50: min_position
-    403, // 51: max_position
-    506, // 52: cmpeq
-    506, // 53: cmpge
-    506, // 54: cmple
-    506, // 55: cmplt
-    603, // 56: abs
-    603, // 57: signum
-    906, // 58: copysign
-    903, // 59: is_negative_bitmask
-    303, // 60: is_finite
-    503, // 61: is_finite_mask
-    303, // 62: is_nan
-    503, // 63: is_nan_mask
-    203, // 64: length
-    203, // 65: length_squared
-    203, // 66: length_recip
-    206, // 67: distance
-    206, // 68: distance_squared
-    706, // 69: div_euclid
-    706, // 70: rem_euclid
-    603, // 71: normalize
-    1003, // 72: try_normalize
-    706, // 73: normalize_or
-    603, // 74: normalize_or_zero
-    1003, // 75: normalize_and_length
-    303, // 76: is_normalized
-    706, // 77: project_onto
-    706, // 78: reject_from
-    706, // 79: project_onto_normalized
-    706, // 80: reject_from_normalized
-    603, // 81: round
-    603, // 82: floor
-    603, // 83: trunc
-    706, // 84: step
-    603, // 85: saturate
-    603, // 86: fract
-    603, // 87: fract_gl
-    603, // 88: recip
-    807, // 89: lerp
-    807, // 90: move_towards
-    706, // 91: midpoint
-    307, // 92: abs_diff_eq
-    805, // 93: clamp_length
-    804, // 94: clamp_length_max
-    804, // 95: clamp_length_min
-    809, // 96: mul_add
-    706, // 97: reflect
-    807, // 98: refract
-    206, // 99: angle_between
-    603, // 100: any_orthogonal_vector
-    603, // 101: any_orthonormal_vector
-    1003, // 102: any_orthonormal_pair
-    1004, // 103: component
-    706, // 104: add
-    706, // 105: sub
-    706, // 106: mul
-    706, // 107: div
-    804, // 108: add_f32
-    804, // 109: sub_f32
-    804, // 110: mul_f32
-    804, // 111: div_f32
-    603, // 112: neg
-    804, // 113: f32_mul
-    804, // 114: from_homogeneous
-    1003, // 115: to_homogeneous
-    1004, // 116: extend
-    800, // 117: ZERO
-    800, // 118: ONE
-    800, // 119: X
+    503, // 40: new
+    701, // 41: splat
+    739, // 42: select
+    106, // 43: dot
+    606, // 44: cross
+    606, // 45: min
+    606, // 46: max
+    709, // 47: clamp
+    103, // 48: min_element
+    103, // 49: max_element
+    303, // 50: min_position
+    303, // 51: max_position
+    406, // 52: cmpeq
+    406, // 53: cmpge
+    406, // 54: cmple
+    406, // 55: cmplt
+    503, // 56: abs
+    503, // 57: signum
+    806, // 58: copysign
+    803, // 59: is_negative_bitmask
+    203, // 60: is_finite
+    403, // 61: is_finite_mask
+    203, // 62: is_nan
+    403, // 63: is_nan_mask
+    103, // 64: length
+    103, // 65: length_squared
+    103, // 66: length_recip
+    106, // 67: distance
+    106, // 68: distance_squared
+    606, // 69: div_euclid
+    606, // 70: rem_euclid
+    503, // 71: normalize
+    903, // 72: try_normalize
+    606, // 73: normalize_or
+    503, // 74: normalize_or_zero
+    903, // 75: normalize_and_length
+    203, // 76: is_normalized
+    606, // 77: project_onto
+    606, // 78: reject_from
+    606, // 79: project_onto_normalized
+    606, // 80: reject_from_normalized
+    503, // 81: round
+    503, // 82: floor
+    503, // 83: trunc
+    606, // 84: step
+    503, // 85: saturate
+    503, // 86: fract
+    503, // 87: fract_gl
+    503, // 88: recip
+    707, // 89: lerp
+    707, // 90: move_towards
+    606, // 91: midpoint
+    207, // 92: abs_diff_eq
+    705, // 93: clamp_length
+    704, // 94: clamp_length_max
+    704, // 95: clamp_length_min
+    709, // 96: mul_add
+    606, // 97: reflect
+    707, // 98: refract
+    106, // 99: angle_between
+    503, // 100: any_orthogonal_vector
+    503, // 101: any_orthonormal_vector
+    903, // 102: any_orthonormal_pair
+    904, // 103: component
+    606, // 104: add
+    606, // 105: sub
+    606, // 106: mul
+    606, // 107: div
+    704, // 108: add_f32
+    704, // 109: sub_f32
+    704, // 110: mul_f32
+    704, // 111: div_f32
+    503, // 112: neg
+    704, // 113: f32_mul
+    704, // 114: from_homogeneous
+    903, // 115: to_homogeneous
+    904, // 116: extend
+    700, // 117: ZERO
+    700, // 118: ONE
+    700, // 119: X
 ];
 
 // The shape of a number's function.
@@ -197,8 +194,7 @@ fn given_by(group: u16, number: u32, values: &[u32; 10]) -> Answer
     let n = mask_at(values, 4);
     let index = values[4];
     match group {
-        SCALAR => float(scalars::result(number, a.x, a.y, a.z)),
-        LENGTH => float(lengths::result(number, a, b)),
+        NUMBER => float(numbers::result(number, a, b)),
         FLAG => flag(flags::result(number, a, b, c.x)),
         WHOLE => whole(wholes::result(number, a, m)),
         MASK => mask(masks::result(number, a, b, m, n)),

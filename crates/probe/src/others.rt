@@ -8,6 +8,7 @@ use crate::answer::INDEX;
 use crate::answer::given;
 use crate::answer::refused;
 use crate::forms::float;
+use crate::forms::floats;
 use crate::masks;
 use scalar::bits::to_bits;
 use vector::bvec3::BVec3;
@@ -58,15 +59,14 @@ fn normalize_and_length(a: Vec3) -> Answer
 {
     let n = a.normalize_and_length();
     let v = n.normalized;
-    four(v.extend(n.length))
-}
-
-fn four(v: Vec4) -> Answer
-    ensures { λ r. ⌜ r .count ≤ 6 ⌝ }
-{
-    given(
+    floats(
         4,
-        [to_bits(v.x), to_bits(v.y), to_bits(v.z), to_bits(v.w), 0, 0],
+        v,
+        Vec3 {
+            x: n.length,
+            y: 0.0,
+            z: 0.0,
+        },
     )
 }
 
@@ -76,15 +76,23 @@ fn any_orthonormal_pair(a: Vec3) -> Answer
     let p = a.any_orthonormal_pair();
     let v = p.first;
     let w = p.second;
-    given(
-        6,
-        [
-            to_bits(v.x),
-            to_bits(v.y),
-            to_bits(v.z),
-            to_bits(w.x),
-            to_bits(w.y),
-            to_bits(w.z),
-        ],
+    floats(6, v, w)
+}
+
+fn four(v: Vec4) -> Answer
+    ensures { λ r. ⌜ r .count ≤ 6 ⌝ }
+{
+    floats(
+        4,
+        Vec3 {
+            x: v.x,
+            y: v.y,
+            z: v.z,
+        },
+        Vec3 {
+            x: v.w,
+            y: 0.0,
+            z: 0.0,
+        },
     )
 }
