@@ -3,6 +3,7 @@ ghost use Prim.Native.Nat.{_+_, _≤_};
 ghost use lib.ListN.{length};
 ghost use Rattle.probe.specs.Bounds.{longest};
 ghost use Rattle.probe.specs.Shows.{Gives, one};
+use lines::field::put_number;
 
 // The refusals.
 pub(crate) const NONE: u32 = 0;
@@ -12,9 +13,6 @@ pub(crate) const MALFORMED: u32 = 1;
 pub(crate) const UNKNOWN: u32 = 2;
 
 pub(crate) const INDEX: u32 = 10;
-
-// The most bytes of a line, `longest` of specs/.
-pub(crate) const LONGEST: usize = 77;
 
 // The refusal, and the first `count` of the results.
 pub(crate) struct Answer {
@@ -37,7 +35,7 @@ pub(crate) fn refused(refusal: u32, count: usize) -> Answer
 }
 
 // The answer to a call that is not refused.
-pub(crate) fn done(count: usize, results: [u32; 6]) -> Answer
+pub(crate) fn given(count: usize, results: [u32; 6]) -> Answer
     requires { ⌜ count ≤ 6 ⌝ }
     ensures { λ r. ⌜ Gives 0 count results r ⌝ }
 {
@@ -49,37 +47,30 @@ pub(crate) fn done(count: usize, results: [u32; 6]) -> Answer
 }
 
 // Writes the answer's line from `at` on, and gives the place behind it.
-pub(crate) fn put_answer(out: &mut [u8], at: usize, answer: Answer) -> usize
+pub(crate) fn put_line(out: &mut [u8], at: usize, answer: Answer) -> usize
     requires { ⌜ at + longest ≤ length (now out) ⌝ }
     requires { ⌜ answer .count ≤ 6 ⌝ }
     ensures { λ r. ⌜ r ≤ at + longest ⌝ }
 {
     let count = answer.count;
-    let mut end = put_number(out, at, answer.refusal);
+    let mut end = put_digits(out, at, answer.refusal);
     let mut i: usize = 0;
     while i < count {
-        let n = answer.results[i];
         out[end] = b' ';
-        end = put_number(out, end + 1, n);
+        end = put_digits(out, end + 1, answer.results[i]);
         i += 1;
     }
     out[end] = b'\n';
     end + 1
 }
 
-// Writes the number from `at` on, and gives the place behind it.
-fn put_number(out: &mut [u8], at: usize, n: u32) -> usize
+// Writes the number from `at` on, in as many bytes as it has digits, and gives the place behind it.
+fn put_digits(out: &mut [u8], at: usize, n: u32) -> usize
     requires { ⌜ at + 10 ≤ length (now out) ⌝ }
     ensures { λ r. ⌜ r ≤ at + 10 ⌝ }
 {
     let end = at + digits(n);
-    let mut i = end;
-    let mut rest = n;
-    while at < i {
-        i -= 1;
-        out[i] = b'0' + (rest % 10) as u8;
-        rest = rest / 10;
-    }
+    put_number(&mut out[at..end], n);
     end
 }
 
@@ -87,32 +78,14 @@ fn put_number(out: &mut [u8], at: usize, n: u32) -> usize
 fn digits(n: u32) -> usize
     ensures { λ r. ⌜ r ≤ 10 ⌝ }
 {
-    if n >= 1_000_000_000 {
-        return 10;
+    let mut count: usize = 1;
+    let mut rest = n / 10;
+    while 0 < rest {
+        if count == 10 {
+            return 10;
+        }
+        count += 1;
+        rest = rest / 10;
     }
-    if n >= 100_000_000 {
-        return 9;
-    }
-    if n >= 10_000_000 {
-        return 8;
-    }
-    if n >= 1_000_000 {
-        return 7;
-    }
-    if n >= 100_000 {
-        return 6;
-    }
-    if n >= 10_000 {
-        return 5;
-    }
-    if n >= 1000 {
-        return 4;
-    }
-    if n >= 100 {
-        return 3;
-    }
-    if n >= 10 {
-        return 2;
-    }
-    1
+    count
 }

@@ -1,6 +1,5 @@
 // Reading a call line: decimal numbers with single blanks between them, a byte at a time.
 ghost use Prim.Native.Nat.{_≤_};
-ghost use mathlib.Core.Path.{_≡_};
 
 // What the bytes of a field come to: no digit yet, a number, or the word that the line is malformed.
 pub(crate) enum Field {
@@ -79,7 +78,7 @@ fn extended(field: Field, byte: u8) -> Field {
     if byte > b'9' {
         return Field::Malformed;
     }
-    let digit = wide(byte - b'0');
+    let digit = (byte - b'0') as u32;
     match field {
         Field::Empty => Field::Number(digit),
         Field::Number(n) => appended(n, digit),
@@ -99,10 +98,4 @@ fn appended(n: u32, digit: u32) -> Field
         return Field::Malformed;
     }
     Field::Number(longer as u32)
-}
-
-fn wide(byte: u8) -> u32
-    ensures { λ r. ⌜ r ≡ byte ⌝ }
-{
-    byte as u32
 }

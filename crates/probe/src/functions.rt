@@ -1,92 +1,176 @@
 // The functions by number: what each takes and gives, and the answer to a call.
 ghost use Prim.Native.Nat.{_≤_};
-ghost use Rattle.probe.specs.Bounds.{Sizes};
 use crate::answer::Answer;
 use crate::answer::MALFORMED;
 use crate::answer::NONE;
 use crate::answer::UNKNOWN;
-use crate::answer::done;
 use crate::answer::refused;
-use crate::elements;
-use crate::lengths;
+use crate::flags;
+use crate::forms::flag;
+use crate::forms::float;
+use crate::forms::mask;
+use crate::forms::mask_at;
+use crate::forms::vector;
+use crate::forms::vector_at;
+use crate::forms::whole;
 use crate::masks;
-use crate::motions;
-use crate::scalars;
+use crate::numbers;
+use crate::others;
+use crate::signs;
+use crate::vectors;
+use crate::wholes;
 
-// What a function takes and gives: the first `bools` of its arguments are bools.
-struct Shape {
-    known: bool,
-    arguments: usize,
-    bools: usize,
-    results: usize,
-}
+// The groups of functions by what they take and give, the hundreds of a shape. Those of no other group are the last.
+const NUMBER: u16 = 1;
+
+const FLAG: u16 = 2;
+
+const WHOLE: u16 = 3;
+
+const MASK: u16 = 4;
+
+const VECTOR_OF_ONE: u16 = 5;
+
+const VECTOR_OF_TWO: u16 = 6;
+
+const VECTOR_OF_MORE: u16 = 7;
+
+const SIGN: u16 = 8;
+
+// The shape of each number's function, and 0 where there is none: its ones are how many arguments it takes, its tens how many of these, at the front, are
+// bools, and its hundreds its group.
+const SHAPES: [u16; 120] = [
+    0,
+    101, // 1: sqrt
+    103, // 2: mul_add
+    101, // 3: trunc
+    101, // 4: floor
+    101, // 5: round
+    101, // 6: abs
+    802, // 7: copysign
+    101, // 8: signum
+    102, // 9: rem
+    102, // 10: div_euclid
+    102, // 11: rem_euclid
+    101, // 12: acos_approx
+    201, // 13: is_finite
+    201, // 14: is_nan
+    801, // 15: is_sign_negative
+    0,
+    0,
+    0,
+    0,
+    0,
+    0,
+    0,
+    0,
+    0,
+    0,
+    0,
+    0,
+    0,
+    0,
+    433, // 30: BVec3::new
+    411, // 31: BVec3::splat
+    934, // 32: BVec3::test
+    333, // 33: BVec3::bitmask
+    466, // 34: BVec3::and
+    466, // 35: BVec3::or
+    433, // 36: BVec3::not
+    0,
+    0,
+    0,
+    503, // 40: new
+    701, // 41: splat
+    739, // 42: select
+    106, // 43: dot
+    606, // 44: cross
+    606, // 45: min
+    606, // 46: max
+    709, // 47: clamp
+    103, // 48: min_element
+    103, // 49: max_element
+    303, // 50: min_position
+    303, // 51: max_position
+    406, // 52: cmpeq
+    406, // 53: cmpge
+    406, // 54: cmple
+    406, // 55: cmplt
+    503, // 56: abs
+    503, // 57: signum
+    806, // 58: copysign
+    803, // 59: is_negative_bitmask
+    203, // 60: is_finite
+    403, // 61: is_finite_mask
+    203, // 62: is_nan
+    403, // 63: is_nan_mask
+    103, // 64: length
+    103, // 65: length_squared
+    103, // 66: length_recip
+    106, // 67: distance
+    106, // 68: distance_squared
+    606, // 69: div_euclid
+    606, // 70: rem_euclid
+    503, // 71: normalize
+    903, // 72: try_normalize
+    606, // 73: normalize_or
+    503, // 74: normalize_or_zero
+    903, // 75: normalize_and_length
+    203, // 76: is_normalized
+    606, // 77: project_onto
+    606, // 78: reject_from
+    606, // 79: project_onto_normalized
+    606, // 80: reject_from_normalized
+    503, // 81: round
+    503, // 82: floor
+    503, // 83: trunc
+    606, // 84: step
+    503, // 85: saturate
+    503, // 86: fract
+    503, // 87: fract_gl
+    503, // 88: recip
+    707, // 89: lerp
+    707, // 90: move_towards
+    606, // 91: midpoint
+    207, // 92: abs_diff_eq
+    705, // 93: clamp_length
+    704, // 94: clamp_length_max
+    704, // 95: clamp_length_min
+    709, // 96: mul_add
+    606, // 97: reflect
+    707, // 98: refract
+    106, // 99: angle_between
+    503, // 100: any_orthogonal_vector
+    503, // 101: any_orthonormal_vector
+    903, // 102: any_orthonormal_pair
+    904, // 103: component
+    606, // 104: add
+    606, // 105: sub
+    606, // 106: mul
+    606, // 107: div
+    704, // 108: add_f32
+    704, // 109: sub_f32
+    704, // 110: mul_f32
+    704, // 111: div_f32
+    503, // 112: neg
+    704, // 113: f32_mul
+    704, // 114: from_homogeneous
+    903, // 115: to_homogeneous
+    904, // 116: extend
+    700, // 117: ZERO
+    700, // 118: ONE
+    700, // 119: X
+];
 
 // The shape of a number's function.
-fn shape_of(number: u32) -> Shape
-    ensures { λ r. ⌜ Sizes (r .arguments) (r .bools) (r .results) ⌝ }
-{
-    match number {
-        1 | 3..=6 | 8 | 12..=15 => row(1, 0, 1),
-        2 => row(3, 0, 1),
-        7 | 9..=11 => row(2, 0, 1),
-        30 | 36 => row(3, 3, 3),
-        31 => row(1, 1, 3),
-        32 => row(4, 3, 1),
-        33 => row(3, 3, 1),
-        34 | 35 => row(6, 6, 3),
-        40 | 56 | 57 | 61 | 63 | 71 | 74 | 81..=83 | 85..=88 | 100 | 101 | 112 => row(3, 0, 3),
-        41 => row(1, 0, 3),
-        42 => row(9, 3, 3),
-        43 | 67 | 68 | 99 => row(6, 0, 1),
-        44..=46 | 52..=55 | 58 | 69 | 70 | 73 | 77..=80 | 84 | 91 | 97 | 104..=107 => row(6, 0, 3),
-        47 | 96 => row(9, 0, 3),
-        48..=51 | 59 | 60 | 62 | 64..=66 | 76 => row(3, 0, 1),
-        72 | 75 | 115 => row(3, 0, 4),
-        89 | 90 | 98 => row(7, 0, 3),
-        92 => row(7, 0, 1),
-        93 => row(5, 0, 3),
-        94 | 95 | 108..=111 | 113 | 114 => row(4, 0, 3),
-        102 => row(3, 0, 6),
-        103 => row(4, 0, 1),
-        116 => row(4, 0, 4),
-        117..=119 => row(0, 0, 3),
-        _ => Shape {
-            known: false,
-            arguments: 0,
-            bools: 0,
-            results: 0,
-        },
+fn shape_of(number: u32) -> u16 {
+    if number < 120 {
+        return SHAPES[number as usize];
     }
+    0
 }
 
-// A row: the arguments, the bools at their front, the results.
-fn row(arguments: usize, bools: usize, results: usize) -> Shape
-    requires { ⌜ Sizes arguments bools results ⌝ }
-    ensures { λ r. ⌜ Sizes (r .arguments) (r .bools) (r .results) ⌝ }
-{
-    Shape {
-        known: true,
-        arguments: arguments,
-        bools: bools,
-        results: results,
-    }
-}
-
-// The results of a function that takes no index, at the arguments behind its number in `values`.
-fn results_of(number: u32, values: &[u32; 10]) -> [u32; 6] {
-    match number {
-        1..=15 => scalars::results_of(number, values),
-        30..=36 => masks::results_of(number, values),
-        43 | 44 | 64..=68 | 71..=80 | 93..=95 => lengths::results_of(number, values),
-        69 | 70 | 81..=92 | 96..=102 => motions::results_of(number, values),
-        104..=113 => motions::operators_of(number, values),
-        114..=119 => elements::others_of(number, values),
-        40..=63 => elements::results_of(number, values),
-        _ => [0; 6],
-    }
-}
-
-// The answer to a line of `count` numbers. An index above 2 is refused by the two functions that take one.
+// The answer to a line of `count` numbers.
 pub(crate) fn answer_to(values: &[u32; 10], count: usize) -> Answer
     ensures { λ r. ⌜ r .count ≤ 6 ⌝ }
 {
@@ -96,24 +180,41 @@ pub(crate) fn answer_to(values: &[u32; 10], count: usize) -> Answer
     if refusal != NONE {
         return refused(refusal, 0);
     }
-    match number {
-        32 => masks::test(values),
-        103 => elements::component(values),
-        _ => done(shape.results, results_of(number, values)),
+    given_by(shape / 100, number, values)
+}
+
+// The answer to a call that is not refused. A number among the arguments is the component of a vector that is read from there on.
+fn given_by(group: u16, number: u32, values: &[u32; 10]) -> Answer
+    ensures { λ r. ⌜ r .count ≤ 6 ⌝ }
+{
+    let a = vector_at(values, 1);
+    let b = vector_at(values, 4);
+    let c = vector_at(values, 7);
+    let m = mask_at(values, 1);
+    let n = mask_at(values, 4);
+    let index = values[4];
+    match group {
+        NUMBER => float(numbers::result(number, a, b)),
+        FLAG => flag(flags::result(number, a, b, c.x)),
+        WHOLE => whole(wholes::result(number, a, m)),
+        MASK => mask(masks::result(number, a, b, m, n)),
+        VECTOR_OF_ONE => vector(vectors::of_one(number, a)),
+        VECTOR_OF_TWO => vector(vectors::of_two(number, a, b)),
+        VECTOR_OF_MORE => vector(vectors::of_more(number, a, b, c, m)),
+        SIGN => signs::answer(number, values),
+        _ => others::answer(number, a, b.x, m, index),
     }
 }
 
 // The refusal of a line of `count` numbers.
-fn refusal_of(shape: Shape, values: &[u32; 10], count: usize) -> u32
-    requires { ⌜ Sizes (shape .arguments) (shape .bools) (shape .results) ⌝ }
-{
-    if !shape.known {
+fn refusal_of(shape: u16, values: &[u32; 10], count: usize) -> u32 {
+    if shape == 0 {
         return UNKNOWN;
     }
-    if count != shape.arguments + 1 {
+    if count != (shape % 10) as usize + 1 {
         return MALFORMED;
     }
-    if !are_bools(values, shape.bools) {
+    if !are_bools(values, (shape / 10 % 10) as usize) {
         return MALFORMED;
     }
     NONE

@@ -1,142 +1,124 @@
 // Answers each call line of standard input: a function's number and its arguments.
 mod answer;
 mod call;
-mod elements;
+mod flags;
 mod forms;
 mod functions;
-mod lengths;
 mod masks;
-mod motions;
-mod scalars;
+mod numbers;
+mod others;
 mod signs;
+mod vectors;
+mod wholes;
 
-ghost use Prim.Native.Nat.{_+_, _≤_, _<_};
+ghost use Prim.Native.Nat.{_*_, _≤_};
+ghost use mathlib.Core.Path.{_≡_};
 ghost use lib.ListN.{length};
 ghost use Rattle.probe.specs.Bounds.{longest};
-use answer::LONGEST;
+use answer::Answer;
 use answer::MALFORMED;
-use answer::put_answer;
+use answer::put_line;
 use answer::refused;
 use call::Call;
 use call::Field;
 use call::kept;
 use functions::answer_to;
+use libc::STDERR_FILENO;
 use libc::STDIN_FILENO;
 use libc::STDOUT_FILENO;
 
-// The line that has not ended, and how many bytes were taken and put.
-struct Taken {
-    call: Call,
-    took: usize,
-    put: usize,
-}
+// How many bytes are read at a time: as many longest lines fit a buffer of 65,536 bytes.
+const CHUNK: usize = 851;
 
-// The line that has not ended, and whether to read on.
+// The line that has not ended, how many bytes were consumed, and whether to read on.
 struct Turn {
     call: Call,
+    consumed: usize,
     goes_on: bool,
 }
 
-// Writes the answer to a line that ended, and gives the place behind it.
-fn put_ended(call: Call, values: &mut [u32; 10], out: &mut [u8], at: usize) -> usize
-    requires { ⌜ at + longest ≤ length (now out) ⌝ }
-    ensures { λ r. ⌜ r ≤ at + longest ⌝ }
+// The answer to a line that ended.
+fn answer_of(call: Call, values: &mut [u32; 10]) -> Answer
+    ensures { λ r. ⌜ r .count ≤ 6 ⌝ }
 {
     let field = call.field;
     let Field::Number(n) = field else {
-        return put_answer(out, at, refused(MALFORMED, 0));
+        return refused(MALFORMED, 0);
     };
     let count = kept(values, call.count, n);
-    put_answer(out, at, answer_to(values, count))
+    answer_to(values, count)
 }
 
-// Takes bytes while there is room for an answer.
-fn take(call: Call, values: &mut [u32; 10], bytes: &[u8], out: &mut [u8]) -> Taken
-    requires { ⌜ (0 < length (now bytes)) × (longest ≤ length (now out)) ⌝ }
-    ensures { λ r. ⌜ (0 < r .took) × (r .took ≤ length (now (bytes .entry))) ⌝ }
-    ensures { λ r. ⌜ r .put ≤ length (now (out .entry)) ⌝ }
+// Answers the lines that end in the bytes.
+fn answer_all(call: Call, values: &mut [u32; 10], bytes: &[u8], out: &mut [u8]) -> Turn
+    requires { ⌜ length (now bytes) * longest ≤ length (now out) ⌝ }
+    ensures { λ r. ⌜ r .consumed ≡ length (now (bytes .entry)) ⌝ }
 {
     let mut line = call;
-    let mut put: usize = 0;
+    let mut produced: usize = 0;
     let mut i: usize = 0;
     while i < bytes.len() {
         let byte = bytes[i];
+        i += 1;
         if byte != b'\n' {
             line = line.with(byte, values);
-            i += 1;
             continue;
         }
-        if out.len() - put < LONGEST {
-            break;
-        }
-        put = put_ended(line, values, out, put);
+        produced = put_line(out, produced, answer_of(line, values));
         line = Call::fresh();
-        i += 1;
     }
-    Taken {
-        call: line,
-        took: i,
-        put: put,
-    }
-}
-
-// Answers the lines that end in the bytes, in as many turns as the answers need room.
-fn answer_all(call: Call, values: &mut [u32; 10], bytes: &[u8], out: &mut [u8]) -> Turn
-    requires { ⌜ longest ≤ length (now out) ⌝ }
-{
-    let mut line = call;
-    let mut at: usize = 0;
-    while at < bytes.len() {
-        let t = take(line, values, &bytes[at..], out);
-        line = t.call;
-        at += t.took;
-        let put = t.put;
-        if !io::write_all(STDOUT_FILENO, &out[..put]) {
-            return Turn {
-                call: line,
-                goes_on: false,
-            };
-        }
-    }
+    let goes_on = write(&out[..produced]);
     Turn {
         call: line,
-        goes_on: true,
+        consumed: i,
+        goes_on: goes_on,
     }
 }
 
-// Reads once, and writes the answers to the lines that ended.
-fn read_once(call: Call, values: &mut [u32; 10], chunk: &mut [u8], out: &mut [u8]) -> Turn
-    requires { ⌜ longest ≤ length (now out) ⌝ }
-{
-    let got = libc::read(STDIN_FILENO, chunk);
-    if got <= 0 {
-        return Turn {
-            call: call,
-            goes_on: false,
-        };
+// Answers the bytes behind the last line feed, which are malformed, or says that the input could not be read.
+fn end(call: Call, failed: bool) {
+    if failed {
+        report(b"probe: reading standard input failed\n");
+        return;
     }
-    let n = io::count(got, chunk);
-    answer_all(call, values, &chunk[..n], out)
+    if call.started() {
+        write(b"1\n");
+    }
+}
+
+// Writes the bytes to standard output, and says so where that fails.
+fn write(bytes: &[u8]) -> bool {
+    if io::write_all(STDOUT_FILENO, bytes) {
+        return true;
+    }
+    report(b"probe: writing standard output failed\n");
+    false
+}
+
+// Writes a message to standard error. Nothing is left to say where that fails too.
+fn report(message: &[u8]) {
+    io::write_all(STDERR_FILENO, message);
 }
 
 // A proved loop has to end, so this one counts its turns down, from a number that no run uses up.
 fn main() {
     let mut call = Call::fresh();
     let mut values = [0u32; 10];
-    let mut chunk = [0u8; 65536];
-    let mut out = [0u8; 65536];
+    let mut chunk = [0u8; CHUNK];
+    let mut out = io::large_buffer();
     let mut turns = u64::MAX;
-    let mut goes_on = true;
-    while goes_on {
-        if turns == 0 {
+    while 0 < turns {
+        turns -= 1;
+        let got = libc::read(STDIN_FILENO, &mut chunk);
+        if got <= 0 {
+            end(call, got < 0);
             return;
         }
-        turns -= 1;
-        let t = read_once(call, &mut values, &mut chunk, &mut out);
+        let n = io::count(got, &chunk);
+        let t = answer_all(call, &mut values, &chunk[..n], &mut out);
+        if !t.goes_on {
+            return;
+        }
         call = t.call;
-        goes_on = t.goes_on;
-    }
-    if call.started() {
-        io::write_all(STDOUT_FILENO, b"1\n");
     }
 }

@@ -1,47 +1,37 @@
-// The functions of BVec3, 30 to 36.
-ghost use Prim.Native.Nat.{_≤_};
+// The functions that give a mask, and `test`, which refuses an index above 2.
 ghost use Rattle.vector.specs.Masks as Masks;
 ghost use Rattle.probe.specs.Shows.{Shows};
 use crate::answer::Answer;
 use crate::answer::INDEX;
-use crate::answer::done;
 use crate::answer::refused;
 use crate::forms::flag;
-use crate::forms::mask;
-use crate::forms::mask_at;
-use crate::forms::whole;
 use vector::bvec3::BVec3;
 use vector::bvec3::Tested;
+use vector::vec3::Vec3;
 
-// The results of a function at the arguments behind its number in `values`.
-pub(crate) fn results_of(number: u32, values: &[u32; 10]) -> [u32; 6] {
-    let a = mask_at(values, 1);
-    let b = mask_at(values, 4);
+pub(crate) fn result(number: u32, a: Vec3, b: Vec3, m: BVec3, n: BVec3) -> BVec3 {
     match number {
-        30 => mask(BVec3::new(a.x, a.y, a.z)),
-        31 => mask(BVec3::splat(a.x)),
-        33 => whole(a.bitmask()),
-        34 => mask(a.and(b)),
-        35 => mask(a.or(b)),
-        36 => mask(a.not()),
-        _ => [0; 6],
+        30 => BVec3::new(m.x, m.y, m.z),
+        31 => BVec3::splat(m.x),
+        34 => m.and(n),
+        35 => m.or(n),
+        36 => m.not(),
+        52 => a.cmpeq(b),
+        53 => a.cmpge(b),
+        54 => a.cmple(b),
+        55 => a.cmplt(b),
+        61 => a.is_finite_mask(),
+        _ => a.is_nan_mask(), // 63
     }
 }
 
-// The answer of `test`, which refuses an index above 2.
-pub(crate) fn test(values: &[u32; 10]) -> Answer
-    ensures { λ r. ⌜ r .count ≤ 6 ⌝ }
-{
-    let a = mask_at(values, 1);
-    tested(a.test(values[4]))
-}
-
 // A bit, or the refusal.
-fn tested(t: Tested) -> Answer
-    ensures { λ r. ⌜ Shows Masks.bit (Masks.answerOf t) r ⌝ }
+pub(crate) fn test(m: BVec3, index: u32) -> Answer
+    ensures { λ r. ⌜ Shows Masks.bit (Masks.test m index) r ⌝ }
 {
+    let t = m.test(index);
     let Tested::Bit(b) = t else {
         return refused(INDEX, 1);
     };
-    done(1, flag(b))
+    flag(b)
 }

@@ -3,22 +3,8 @@ use borrow.Author.Needs.{needs}
 use Rattle.probe.proofs.forms.vector_of.Statement.{statement}
 use Rattle.probe.proofs.forms.vector_of.Tie as tie
 
-from-bits-requires : tie.Need-from-bits-requires
-from-bits-requires c κs = search needs
-
-from-bits-requires-2 : tie.Need-from-bits-requires-2
-from-bits-requires-2 c κs = search needs
-
-from-bits-requires-3 : tie.Need-from-bits-requires-3
-from-bits-requires-3 c κs = search needs
-
-new-requires : tie.Need-new-requires
-new-requires c κs = search needs
-
 returns : tie.Need-returns
-returns c = simp (c .before .before .before .from-bits .ensures, c .before .before .from-bits2 .ensures, c .before .from-bits3 .ensures, c .new .ensures)
+returns c = simp (c .before .before .from-bits .ensures, c .before .from-bits2 .ensures, c .from-bits3 .ensures)
 
 pub vector-of-spec : {M : Type 1} → statement M
-vector-of-spec =
-    tie.close
-    (tie.spec from-bits-requires from-bits-requires-2 from-bits-requires-3 new-requires returns)
+vector-of-spec = tie.close (tie.spec (λ c κs. search needs) (λ c κs. search needs) (λ c κs. search needs) returns)

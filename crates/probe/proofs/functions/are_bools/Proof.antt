@@ -1,4 +1,4 @@
--- `probe::functions::are_bools` meets its contract, if the C library's `read` and `write` keep theirs.
+-- `probe::functions::are_bools` meets its contract. The loop stays at the bools or before them; those that are not read yet become fewer.
 use Prim.Native.Nat.{_≤_, _-_}
 use borrow.Author.Needs.{needs}
 use Rattle.probe.proofs.functions.are_bools.Statement.{statement}
@@ -10,41 +10,17 @@ Inv-loop values bools i₀ i = i ≤ bools
 abbrev μ-loop : tie.MeasureT-loop
 μ-loop values bools i₀ i = bools - i
 
-loop-holds : tie.Need-loop-holds Inv-loop μ-loop
-loop-holds c = search needs
-
-add-i : tie.Need-add-i Inv-loop μ-loop
-add-i c = search needs
-
-mul-if1 : tie.Need-mul-if1 Inv-loop μ-loop
-mul-if1 c = search needs
-
-element-copy-out-if1 : tie.Need-element-copy-out-if1 Inv-loop μ-loop
-element-copy-out-if1 c = search needs
-
-returns : tie.Need-returns Inv-loop μ-loop
-returns c = search needs
-
-loop-less : tie.Need-loop-less Inv-loop μ-loop
-loop-less c = search needs
-
-loop-again : tie.Need-loop-again Inv-loop μ-loop
-loop-again c = search needs
-
-returns-2 : tie.Need-returns-2 Inv-loop μ-loop
-returns-2 c = search needs
-
 pub are-bools-spec : {M : Type 1} → statement M
 are-bools-spec =
     tie.close
     (tie.spec
     Inv-loop
     μ-loop
-    loop-holds
-    add-i
-    mul-if1
-    element-copy-out-if1
-    returns
-    loop-less
-    loop-again
-    returns-2)
+    (λ c. search needs)
+    (λ c. search needs)
+    (λ c. search needs)
+    (λ c. search needs)
+    (λ c. search needs)
+    (λ c. search needs)
+    (λ c. search needs)
+    (λ c. search needs))
