@@ -15,14 +15,12 @@ returns c =
 returns-2 : tie.Need-returns-2
 unfolding answerOf
 returns-2 c =
-    let at-match = c .before .before .before .before .before .before .before .before .before in
     simp (
       ← c .before .before .put-numbers2 .ensures,
       ← c .before .before .before .to-bits3 .ensures,
       ← c .before .before .before .before .to-bits2 .ensures,
       ← c .before .before .before .before .before .to-bits .ensures,
       c .before .before .before .before .before .before .before .before .x2 .given .1,
-      at-match .match .keys2,
     )
 
 returns-3 : tie.Need-returns-3
