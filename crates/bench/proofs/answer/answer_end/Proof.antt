@@ -1,7 +1,7 @@
 -- `bench::answer::answer_end` meets its contract, if the C library's `write` keeps its own.
 use borrow.Author.Needs.{needs}
-use Prim.Native.Nat.{_≤_}
-use mathlib.Core.Path.{sym, ap}
+use Prim.Native.Nat.{ℕ, _≤_}
+use mathlib.Core.Path.{sym, ap, _∙_}
 use native.Mathlib.Omega.{arith}
 use lib.ListN.{length}
 use lib.Seq.{length-take-le}
@@ -16,7 +16,11 @@ fits c =
     omega (arith, ap (λ (e : EndedInto). e .produced) (c .ended .ensures), ended-fits (textOf (start .args .stream)) (start .args .out .now), c .ended .kept .1 .0)
 
 returns : tie.Need-returns
-returns c = let at-ended = c .before .before .before .before in rw (length-take-le (at-ended .ended .result .produced) (at-ended .ended .last .1 .0) (fits at-ended)) (at-ended .ended .ensures)
+returns c =
+    let at-ended = c .before .before .before .before in
+    let r = at-ended .ended .result in
+    let out = at-ended .ended .last .1 .0 in
+    ap (λ (n : ℕ). record { bytes = out; produced = n; refusal = r .refusal }) (length-take-le (r .produced) out (fits at-ended)) ∙ at-ended .ended .ensures
 
 pub answer-end-spec : {M : Type 1} → statement M
 answer-end-spec =
