@@ -44,27 +44,27 @@ status-read (pos zero) b t = absurd (omega (arith, leb-false 0 0 t))
 status-read (pos (suc k)) b t = refl
 status-read (negsuc k) b t = cc
 
--- a turn has one status
-apart : {s : Status} → s ≡ WriteFailed → s ≡ Going → ⊥
-apart p q = let z : _≡_ {A = ℕ} 0 1 = cc in omega arith
+-- statuses by number, so that two are told apart
+abbrev pub statusNumber : Status → ℕ
+statusNumber Going = 0
+statusNumber Ended = 1
+statusNumber ReadFailed = 2
+statusNumber WriteFailed = 3
 
-pub ended-apart : {s : Status} → s ≡ WriteFailed → s ≡ Ended → ⊥
-ended-apart p q = let z : _≡_ {A = ℕ} 0 1 = cc in omega arith
+pub apart : {s t : Status} → s ≡ t → (statusNumber s ≡ statusNumber t → ⊥) → ⊥
+apart e n = n (ap statusNumber e)
 
 some-read : (z : ℤ) (b : Bool) (m : ℕ) → statusOf z b ≡ Going → Moved m z → (0 < clamped z m) × (clamped z m ≤ m)
 unfolding statusOf
-some-read (pos zero) b m e l = let z : _≡_ {A = ℕ} 0 1 = cc in absurd (omega arith)
+some-read (pos zero) b m e l = absurd (apart e (λ q. omega (arith, q)))
 some-read (pos (suc k)) b m e l = (omega (arith, l), omega arith)
-some-read (negsuc k) b m e l = let z : _≡_ {A = ℕ} 0 1 = cc in absurd (omega arith)
+some-read (negsuc k) b m e l = absurd (apart e (λ q. omega (arith, q)))
 
 ended-none : (z : ℤ) (b : Bool) (m : ℕ) → statusOf z b ≡ Ended → clamped z m ≡ 0
 unfolding statusOf
 ended-none (pos zero) b m e = omega arith
-ended-none (pos (suc k)) b m e = absurd (read-goes b e)
-  where
-    read-goes : (b : Bool) → cond b Going WriteFailed ≡ Ended → ⊥
-    read-goes true q = let z : _≡_ {A = ℕ} 0 1 = cc in omega arith
-    read-goes false q = let z : _≡_ {A = ℕ} 0 1 = cc in omega arith
+ended-none (pos (suc k)) true m e = absurd (apart e (λ q. omega (arith, q)))
+ended-none (pos (suc k)) false m e = absurd (apart e (λ q. omega (arith, q)))
 ended-none (negsuc k) b m e = refl
 
 -- ---- what is done with it
@@ -120,7 +120,7 @@ module _ {w w₁ text w₂ chunk : List ℕ} {reads : ℕ} {t : Turn} (f : Fed w
   read-more e room =
       let g = r .answered in
       let some = some-read (r .got) (g .written) (length chunk) (sym (g .status) ∙ e) (r .moved) in
-      let all : t .consumed ≡ clamped (r .got) (length chunk) = g .all (λ q. apart q e) in
+      let all : t .consumed ≡ clamped (r .got) (length chunk) = g .all (λ q. apart (sym e ∙ q) (λ k. omega (arith, k))) in
       let size : length (take (t .consumed) chunk) ≡ t .consumed = length-take-le (t .consumed) chunk (omega (arith, all, some .1)) in
       let both : length joined ≡ length (f .input) + length (take (t .consumed) chunk) = length-append (f .input) (take (t .consumed) chunk) in
       record { input = joined; is-fed = joined-fed; least = omega (arith, f .least, all, some .0, size, both); most-bytes = omega (arith, f .most-bytes, all, some .1, size, both, room) }
@@ -129,7 +129,7 @@ module _ {w w₁ text w₂ chunk : List ℕ} {reads : ℕ} {t : Turn} (f : Fed w
   pub read-ended : t .status ≡ Ended → Fed w w₂ (textOf (t .stream)) reads
   read-ended e =
       let g = r .answered in
-      let none : t .consumed ≡ 0 = g .all (λ q. ended-apart q e) ∙ ended-none (r .got) (g .written) (length chunk) (sym (g .status) ∙ e) in
+      let none : t .consumed ≡ 0 = g .all (λ q. apart (sym e ∙ q) (λ k. omega (arith, k))) ∙ ended-none (r .got) (g .written) (length chunk) (sym (g .status) ∙ e) in
       let both : length joined ≡ length (f .input) + length (take (t .consumed) chunk) = length-append (f .input) (take (t .consumed) chunk) in
       let size : length (take (t .consumed) chunk) ≡ 0 = rw none refl in
       record { input = joined; is-fed = joined-fed; least = omega (arith, f .least, both); most-bytes = omega (arith, f .most-bytes, size, both) }
@@ -142,12 +142,3 @@ input-ended w w′ text before out reads f e =
 pub input-left : (w w′ text input out : List ℕ) (r : Answers) → held w′ text ≡ feedOf lentStep (held w []) input .held → (r .status ≡ Ended → ⊥) → InputFed w w′ out r
 input-left w w′ text input out r e n =
     record { input = input; text = text; fed = e; least-read = λ q. absurd (n q); most-read = λ q. absurd (n q); before-end = []; last = λ q. absurd (n q) }
-
-pub going-left : Going ≡ Ended → ⊥
-going-left q = let z : _≡_ {A = ℕ} 0 1 = cc in omega arith
-
-pub read-failed-left : ReadFailed ≡ Ended → ⊥
-read-failed-left q = let z : _≡_ {A = ℕ} 0 1 = cc in omega arith
-
-pub write-failed-left : WriteFailed ≡ Ended → ⊥
-write-failed-left q = let z : _≡_ {A = ℕ} 0 1 = cc in omega arith

@@ -2,6 +2,7 @@
 ghost use mathlib.Core.Path.{_≡_};
 ghost use Prim.Native.Nat.{_≤_};
 ghost use lib.ListN.{length};
+ghost use Rattle.lines.specs.AnswerLine.{answerLength};
 ghost use Rattle.sheet.specs.Words.{lentStep};
 ghost use Rattle.stream.specs.Stream.{held, textOf, fedInto, endedOf};
 ghost use Rattle.bench.specs.Feeding.{most, handedBy, lastBy, AllFed};
@@ -40,7 +41,7 @@ pub(crate) fn answer_all(
     bytes: &[u8],
     out: &mut [u8],
 ) -> Answered
-    requires { ⌜ (43 ≤ length (now out)) × (length (now bytes) ≤ most) ⌝ }
+    requires { ⌜ (answerLength ≤ length (now out)) × (length (now bytes) ≤ most) ⌝ }
     ensures { λ r. ⌜ AllFed (held (now (state .entry)) (textOf stream)) (now (bytes .entry)) (now (state .exit)) r ⌝ }
 {
     let mut s = stream;

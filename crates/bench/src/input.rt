@@ -1,6 +1,7 @@
 // The whole of standard input: reads, and what each of them brings, until the input ends.
 ghost use Prim.Native.Nat.{_≤_};
 ghost use lib.ListN.{length};
+ghost use Rattle.lines.specs.AnswerLine.{answerLength};
 ghost use Rattle.stream.specs.Stream.{held, textOf};
 ghost use Rattle.bench.specs.Feeding.{most, GotFed, ReadFed, InputFed};
 use crate::answer::answer_all;
@@ -25,7 +26,7 @@ struct Turn {
 
 // What a read answered: the number of bytes at the start of the chunk, 0 at the end of the input, or -1.
 fn answer_read(stream: Stream, state: &mut [u32], got: isize, chunk: &[u8], out: &mut [u8]) -> Turn
-    requires { ⌜ (43 ≤ length (now out)) × (length (now chunk) ≤ most) ⌝ }
+    requires { ⌜ (answerLength ≤ length (now out)) × (length (now chunk) ≤ most) ⌝ }
     ensures { λ r. ⌜ GotFed (held (now (state .entry)) (textOf stream)) got (now (chunk .entry)) (now (state .exit)) r ⌝ }
 {
     if got < 0 {
@@ -35,6 +36,7 @@ fn answer_read(stream: Stream, state: &mut [u32], got: isize, chunk: &[u8], out:
             status: Status::ReadFailed,
         };
     }
+    // no byte: the end of the input
     if got <= 0 {
         return Turn {
             stream: stream,
@@ -62,7 +64,7 @@ fn answer_read(stream: Stream, state: &mut [u32], got: isize, chunk: &[u8], out:
 
 // Reads once, and answers the lines that ended.
 fn read_once(stream: Stream, state: &mut [u32], chunk: &mut [u8], out: &mut [u8]) -> Turn
-    requires { ⌜ (43 ≤ length (now out)) × (length (now chunk) ≤ most) ⌝ }
+    requires { ⌜ (answerLength ≤ length (now out)) × (length (now chunk) ≤ most) ⌝ }
     ensures { λ r. ⌜ ReadFed (held (now (state .entry)) (textOf stream)) (now (chunk .exit)) (now (state .exit)) r ⌝ }
 {
     let got = libc::read(STDIN_FILENO, chunk);
@@ -78,7 +80,7 @@ pub(crate) struct Answers {
 // Answers the lines of standard input, and at its end the bytes that are left. A proved loop has to end, so this one counts its reads, up to a number that no
 // run comes to.
 pub(crate) fn answer_input(state: &mut [u32], chunk: &mut [u8], out: &mut [u8]) -> Answers
-    requires { ⌜ (43 ≤ length (now out)) × (length (now chunk) ≤ most) ⌝ }
+    requires { ⌜ (answerLength ≤ length (now out)) × (length (now chunk) ≤ most) ⌝ }
     ensures { λ r. ⌜ InputFed (now (state .entry)) (now (state .exit)) (now (out .exit)) r ⌝ }
 {
     let mut stream = Stream::fresh();

@@ -7,7 +7,7 @@ use mathlib.Core.Path.{_≡_, refl, ap}
 use native.Mathlib.Omega.{arith}
 use lib.ListN.{length}
 use Rattle.stream.specs.Stream.{EndedInto, textOf}
-use Rattle.bench.proofs.ReadLaws.{Fed, nothing-read, joined-fed, read-more, read-ended, input-ended, input-left, going-left, read-failed-left, write-failed-left}
+use Rattle.bench.proofs.ReadLaws.{Fed, nothing-read, joined-fed, read-more, read-ended, apart, input-ended, input-left}
 use Rattle.bench.proofs.input.answer_input.Statement.{statement}
 use Rattle.bench.proofs.input.answer_input.Tie as tie
 
@@ -47,22 +47,22 @@ returns-2 : tie.Need-returns-2 Inv-loop μ-loop
 returns-2 c =
     let at-read = c .before .before .before .before .before .before .before .before .before .before .before .before .before .before in
     let at-loop = at-read .before .before .before .before .before in
-    input-left _ _ _ _ _ _ (joined-fed (at-loop .loop .inv .0) (at-read .read-once .ensures)) write-failed-left
+    input-left _ _ _ _ _ _ (joined-fed (at-loop .loop .inv .0) (at-read .read-once .ensures)) (λ e. apart e (λ k. omega (arith, k)))
 
 returns-3 : tie.Need-returns-3 Inv-loop μ-loop
 returns-3 c =
     let at-read = c .before .before .before .before .before .before .before .before .before in
     let at-loop = at-read .before .before .before .before .before in
-    input-left _ _ _ _ _ _ (joined-fed (at-loop .loop .inv .0) (at-read .read-once .ensures)) read-failed-left
+    input-left _ _ _ _ _ _ (joined-fed (at-loop .loop .inv .0) (at-read .read-once .ensures)) (λ e. apart e (λ k. omega (arith, k)))
 
 returns-4 : tie.Need-returns-4 Inv-loop μ-loop
 returns-4 c =
     let at-read = c .before .before .before .before .before .before .before .before .before in
     let at-loop = at-read .before .before .before .before .before in
-    input-left _ _ _ _ _ _ (joined-fed (at-loop .loop .inv .0) (at-read .read-once .ensures)) write-failed-left
+    input-left _ _ _ _ _ _ (joined-fed (at-loop .loop .inv .0) (at-read .read-once .ensures)) (λ e. apart e (λ k. omega (arith, k)))
 
 returns-5 : tie.Need-returns-5 Inv-loop μ-loop
-returns-5 c = input-left _ _ _ _ _ _ (c .before .loop .inv .0 .is-fed) going-left
+returns-5 c = input-left _ _ _ _ _ _ (c .before .loop .inv .0 .is-fed) (λ e. apart e (λ k. omega (arith, k)))
 
 pub answer-input-spec : {M : Type 1} → statement M
 answer-input-spec =
