@@ -6,16 +6,15 @@ use mathlib.Core.Path.{_≡_}
 use mathlib.Core.List.{List, [], _++_}
 use lib.ListN.{length, take, drop}
 use Rattle.commands.specs.Codes.{lentTooShort}
-use Rattle.commands.specs.Rows.{State, fresh}
-use Rattle.commands.specs.Answers.{ModelAnswer}
-use Rattle.commands.specs.Claim.{Sound, AllWell, Claim}
+use Rattle.commands.specs.Rows.{fresh}
+use Rattle.commands.specs.Claim.{Sound, AllWell}
 use Rattle.sheet.specs.Words.{stateWords, modelOf, freshWords}
 use Rattle.lines.specs.AnswerLine.{answerLength}
 use Rattle.stream.specs.declared.Stream.{Stream}
 use Rattle.stream.specs.declared.feed.Progress.{Progress}
 use Rattle.stream.specs.declared.feed.Ended.{Ended}
 use Rattle.stream.specs.Stream.{textOf, Feeds, EndsInput}
-use Rattle.stream.specs.Inputs.{cut, commandsIn, between, texts, lastAnswer}
+use Rattle.stream.specs.Inputs.{cut, commandsIn, Answered}
 
 -- ---- one call
 -- of `feed`: the bytes that it is handed and the lent bytes before it; its result, and the words and the lent bytes after it
@@ -62,14 +61,7 @@ pub data Calls : List ℕ → Stream → List ℕ → List ℕ → List ℕ → 
       → (c .result .refusal ≡ lentTooShort → ⊥)
       → Calls w s [] (take (c .result .produced) (c .after)) w
 
--- ---- what they write
--- the answer lines of the list of commands that the well formed lines of the input give, of which demand 3's claim holds; those of lines that 1 refuses in
--- between, and that of bytes after the last line feed
-pub record Answered (start : State) (input output : List ℕ) (end : State) : Type 0 where
-  pub run : List ModelAnswer
-  pub claim : Claim start (commandsIn (cut input .lines)) run end
-  pub written : output ≡ texts (between (cut input .lines) run ++ lastAnswer (cut input .rest))
-
+-- ---- what they write: they answer the input that they consume
 -- from any sheet, by a stream that holds no byte
 abbrev pub CallsAnswered : Type 0
 CallsAnswered =

@@ -67,14 +67,16 @@ unfoldable pub lastAnswer : List ℕ → List ModelAnswer
 lastAnswer [] = []
 lastAnswer (b ∷ l) = refused illFormed ∷ []
 
--- the answer lines are the answers of the list of commands that the well formed lines give, those of refused lines in between
-pub record Answers (start : State) (input : List ℕ) : Type 0 where
+-- an input is answered, from one sheet to another: what is written are the answer lines of the list of commands that the well formed lines of the input give, of which
+-- demand 3's claim holds; those of lines that 1 refuses in between, and that of bytes after the last line feed
+pub record Answered (start : State) (input output : List ℕ) (end : State) : Type 0 where
   pub run : List ModelAnswer
-  pub claim : Claim start (commandsIn (cut input .lines)) run (fed start input .held .state)
-  pub output : outputOf start input ≡ texts (between (cut input .lines) run ++ lastAnswer (cut input .rest))
+  pub claim : Claim start (commandsIn (cut input .lines)) run end
+  pub written : output ≡ texts (between (cut input .lines) run ++ lastAnswer (cut input .rest))
 
+-- so is every input, by what the definitions make of it
 abbrev pub InputsAnswered : Type 0
-InputsAnswered = (start : State) (input : List ℕ) → Answers start input
+InputsAnswered = (start : State) (input : List ℕ) → Answered start input (outputOf start input) (fed start input .held .state)
 
 -- and how an input is cut into pieces does not matter, by any way of doing one command
 pub record Pieces {S : Type 0} (step : S → Command → Stepped S) (h : Held S) (a b : List ℕ) : Type 0 where

@@ -18,8 +18,8 @@ use Rattle.sheet.specs.Words.{stateWords, modelOf, freshWords, lentStep}
 use Rattle.stream.specs.declared.Stream.{Stream}
 use Rattle.stream.specs.Stream.{Held, held, feedOf, consumedOf, FedInto, fedInto, textOf, fedBy, endOf, EndedInto, endedOf, endedBy}
 use Rattle.stream.specs.Responses.{answerText}
-use Rattle.stream.specs.Inputs.{cut, commandsIn}
-use Rattle.stream.specs.Calls.{Calls, feed, short, ended, Answered, CallsAnswered, FreshAnswered, FreshCallsAnswered}
+use Rattle.stream.specs.Inputs.{cut, commandsIn, Answered}
+use Rattle.stream.specs.Calls.{Calls, feed, short, ended, CallsAnswered, FreshAnswered, FreshCallsAnswered}
 use Rattle.sheet.proofs.WordLaws.{zeros-long, zeros-fresh}
 use Rattle.stream.proofs.turns.AnswerLaws.{length-text}
 use Rattle.stream.proofs.inputs.PieceLaws.{feed-append-held, feed-append-text}
@@ -91,7 +91,7 @@ module _ (w input output w′ : List ℕ) (f : AllFed lentStep (held w []) input
       record {
         run = a .run;
         claim = subst (λ (x : State). Claim (modelOf w) (commandsIn (cut input .lines)) (a .run) x) (sym (ap modelOf (f .state) ∙ m .same-state)) (a .claim);
-        written = rw (f .text, m .same-text, m .same-held) (a .output);
+        written = rw (f .text, m .same-text, m .same-held) (a .written);
       }
 
 pub fresh-fed-answered : (behind input output w′ : List ℕ) → AllFed lentStep (held (freshWords behind) []) input output w′ → FreshAnswered input output w′

@@ -36,7 +36,7 @@ inputs-answered start input =
     record {
       run = run;
       claim = subst (λ (s : State). Claim start (commandsIn lines) run s) (sym (f .state)) (model-claim .every-list start (commandsIn lines));
-      output =
+      written =
           rw (f .text, end-answer (fed start input .held .text) (cut input .rest) (f .rest))
           (sym (texts-append (between lines run) (lastAnswer (cut input .rest))));
     }
