@@ -1,4 +1,4 @@
-//! Reads the named cases of cases.txt: commands with the answers that document 01 gives them.
+//! Reads the named cases of cases.txt: commands with the answers that the documents give them.
 
 use crate::sheet::{Answer, Command};
 

@@ -1,9 +1,9 @@
-//! The outcomes that a command can have: done, or refused by one of the numbers of document 01.
+//! The outcomes that a command can have: done, or refused by one of the numbers of the documents.
 
-use crate::sheet::{used, COMMANDS};
+use crate::sheet::{used, COMMANDS, TAKE_BACK};
 
-/// An outcome is 0 for a command done, or the number of its refusal.
-pub const OUTCOMES: usize = 9;
+/// An outcome is 0 for a command done, or the number of its refusal, of which 11 is the last; 9 and 10 are no outcomes of a command.
+pub const OUTCOMES: usize = 12;
 
 /// The rows of a table of outcomes: one for each command, one for lines with a number above the last command, one for malformed lines.
 pub const ABOVE: usize = COMMANDS as usize;
@@ -11,12 +11,15 @@ pub const MALFORMED: usize = ABOVE + 1;
 
 /// Whether a row of the table can have an outcome.
 pub fn can_have(row: usize, outcome: usize) -> bool {
+    let used = used(row as u32);
     match outcome {
+        0 => row < ABOVE,
         1 => row == MALFORMED,
         2 => row == ABOVE,
-        0 | 3 => row < ABOVE,
-        4 => (2..ABOVE).contains(&row),
-        5 => used(row as u32).is_some_and(|used| used.values > 0),
+        3 => used.is_some_and(|used| used.t || used.a),
+        11 => row == TAKE_BACK as usize,
+        4 => used.is_some_and(|used| used.a),
+        5 => used.is_some_and(|used| used.values > 0),
         8 => row == 23,
         // reflected and refracted directions and pairs always have a direction (laws M, R and P of crates/vector)
         7 => matches!(row, 2 | 11 | 12 | 28),

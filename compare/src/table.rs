@@ -1,12 +1,12 @@
 //! The table of a sitting: how often each command had each outcome, and the worst values.
 
-use crate::outcomes::{can_have, ABOVE, MALFORMED, OUTCOMES};
+use crate::outcomes::{can_have, ABOVE, MALFORMED};
 use crate::sheet::COMMANDS;
 use crate::tally::Tally;
 use std::fmt;
 
-/// The outcomes in the order in which document 01 checks them.
-const ORDER: [usize; OUTCOMES] = [0, 1, 2, 3, 4, 5, 8, 7, 6];
+/// The outcomes that there are, in the order in which the documents have them checked.
+const ORDER: [usize; 10] = [0, 1, 2, 3, 11, 4, 5, 8, 7, 6];
 
 /// The table, the worst values, and what should not have been.
 impl fmt::Display for Tally {
@@ -34,7 +34,7 @@ impl fmt::Display for Tally {
         }
         writeln!(f, "exact squared length of a direction: at most {:.4} times 2^-24 from 1 (64 allowed)", self.length.steps())?;
         writeln!(f, "exact dot product of 24's directions: at most {:.4} times 2^-24 (256 allowed)", self.dot.steps())?;
-        writeln!(f, "numbers not finite in written rows: {}", self.not_finite)?;
+        writeln!(f, "numbers not finite in rows written or brought back: {}", self.not_finite)?;
         if cfg!(feature = "glam-assert") {
             writeln!(f, "broken assertions of the Rust: {}", self.panics.len())?;
         }

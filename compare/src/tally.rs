@@ -4,7 +4,7 @@ use crate::check::Rust;
 use crate::exact::{dot, off_one, Size};
 use crate::outcomes::{can_have, ABOVE, MALFORMED, OUTCOMES};
 use crate::sheet::lines::{read, write_answer};
-use crate::sheet::{used, Answer, Command, Kind, Refusal, Sheet};
+use crate::sheet::{changes, Answer, Command, Kind, Refusal, Sheet, TAKE_BACK};
 
 /// Demand 3: squared lengths of directions are within 2^-18 of 1, dot products of 24's directions at most 2^-16.
 const LENGTH_BOUND: u32 = 18;
@@ -17,7 +17,7 @@ pub struct Tally {
     pub length: Size,
     /// The largest exact dot product of two of the directions that a 24 read and wrote.
     pub dot: Size,
-    /// Numbers in written rows that are not finite.
+    /// Numbers that are not finite in rows that were written or brought back.
     pub not_finite: u64,
     /// The commands at which the Rust panicked: where its assertions are on, one of them was broken.
     pub panics: Vec<Command>,
@@ -62,11 +62,12 @@ impl Tally {
             return Answer::refused(Refusal::Result);
         };
         self.counts[(command.number as usize).min(ABOVE)][answer.refusal as usize] += 1;
-        if answer.refusal == 0 && used(command.number).is_some_and(|used| used.t) {
-            self.look_at(command.t);
+        if answer.refusal == 0 && changes(command.number) {
+            // 24 writes the row behind t too, and 33 may bring that one back
+            let count = if matches!(command.number, 24 | TAKE_BACK) { 2 } else { 1 };
+            self.look_at(answer.row, count);
         }
         if answer.refusal == 0 && command.number == 24 {
-            self.look_at(command.t + 1);
             let [first, second] = [command.t, command.t + 1].map(|t| self.sheet.rows()[t as usize].numbers());
             let read = read.expect("a source is a row");
             for size in [dot(read, first), dot(read, second), dot(first, second)] {
@@ -76,12 +77,13 @@ impl Tally {
         answer
     }
 
-    /// Looks at a row that was written.
-    fn look_at(&mut self, t: u32) {
-        let row = &self.sheet.rows()[t as usize];
-        self.not_finite += row.numbers().iter().filter(|x| !x.is_finite()).count() as u64;
-        if row.kind() == Kind::Direction {
-            self.length = self.length.max(off_one(row.numbers()));
+    /// Looks at so many rows from row t on, which were written or brought back.
+    fn look_at(&mut self, t: u32, count: usize) {
+        for row in self.sheet.rows().iter().skip(t as usize).take(count) {
+            self.not_finite += row.numbers().iter().filter(|x| !x.is_finite()).count() as u64;
+            if row.kind() == Kind::Direction {
+                self.length = self.length.max(off_one(row.numbers()));
+            }
         }
     }
 

@@ -3,6 +3,7 @@
 mod standin;
 
 use compare::library::{kept, lists, Account, Library};
+use compare::sheet::TAKE_BACK;
 use compare::tally::Tally;
 use standin::{fresh, respond, run, run_on, step, FORM, LENT, RIGHT, WORDS};
 
@@ -50,7 +51,12 @@ fn mistakes_of_step_are_found() {
         0 => 0,
         refusal => refusal + put(w, 1, 7),
     };
+    let nothing_taken_back = |w: &mut [u32], n: &[u32; 7], out: &mut [u32]| match n[0] {
+        TAKE_BACK => step(&mut w.to_vec(), n, out),
+        _ => step(w, n, out),
+    };
     all_found(&[
+        ("nothing taken back", Library { step: nothing_taken_back, ..RIGHT }),
         ("sources exchanged", Library { step: |w, &[n, t, a, b, x, y, z], out| step(w, &[n, t, b, a, x, y, z], out), ..RIGHT }),
         ("the sheet left as it was", Library { step: |w, n, out| step(&mut w.to_vec(), n, out), ..RIGHT }),
         (

@@ -1,4 +1,4 @@
-//! The named cases of cases.txt: document 01's corners of the sheet and readings of it.
+//! The named cases of cases.txt: the documents' corners of the sheet and readings of them.
 
 use compare::cases::{cases, CASES};
 use compare::sheet::Sheet;

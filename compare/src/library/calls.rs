@@ -4,7 +4,7 @@ use super::lent::Lent;
 use super::lists::list_refusal;
 use super::{Account, Library, ANSWER};
 use crate::sheet::lines::{self, read, write_answer};
-use crate::sheet::{used, Answer, Command, Refusal};
+use crate::sheet::{changes, Answer, Command, Refusal};
 use crate::tally::Tally;
 use crate::values::Draw;
 use std::fmt::Debug;
@@ -30,17 +30,17 @@ pub struct Room {
     pub answers: usize,
 }
 
-/// What include/bench.h has of a call: its result, what it writes for answers, and whether it writes a row.
+/// What include/bench.h has of a call: its result, what it writes for answers, and whether it changes a row.
 struct Right<T> {
     refusal: u32,
     answers: Vec<T>,
-    writes: bool,
+    changes: bool,
 }
 
 impl<T> Right<T> {
     /// Refused, and nothing is written.
     fn refused(refusal: Refusal) -> Right<T> {
-        Right { refusal: refusal as u32, answers: Vec::new(), writes: false }
+        Right { refusal: refusal as u32, answers: Vec::new(), changes: false }
     }
 }
 
@@ -90,8 +90,8 @@ impl<'a> Calls<'a> {
         let right = if room.answers < ANSWER {
             Right::refused(Refusal::Lent)
         } else {
-            let (answer, writes) = self.answer(Some(command), room);
-            Right { refusal: answer.refusal, answers: answer.numbers().to_vec(), writes }
+            let (answer, changes) = self.answer(Some(command), room);
+            Right { refusal: answer.refusal, answers: answer.numbers().to_vec(), changes }
         };
         let mut answers = Lent::new(&mut self.draw, room.answers, Draw::word);
         let result = (self.library.step)(self.sheet.first(room.words), &command.numbers(), answers.all());
@@ -102,10 +102,10 @@ impl<'a> Calls<'a> {
         let right = if room.answers < lines::ANSWER {
             Right::refused(Refusal::Lent)
         } else {
-            let (answer, writes) = self.answer(read(line).as_ref(), room);
+            let (answer, changes) = self.answer(read(line).as_ref(), room);
             let mut answers = Vec::new();
             write_answer(&answer, &mut answers);
-            Right { refusal: answer.refusal, answers, writes }
+            Right { refusal: answer.refusal, answers, changes }
         };
         let called = || format!("bench_respond \"{:.60}\" of {} bytes", line.escape_ascii().to_string(), line.len());
         let mut given = Lent::holding(&mut self.draw, line, any_byte);
@@ -133,28 +133,28 @@ impl<'a> Calls<'a> {
 
     /// The answers to a list that is run.
     fn answers(&mut self, list: &[Command], room: Room) -> Right<u32> {
-        let mut right = Right { refusal: 0, answers: Vec::new(), writes: false };
+        let mut right = Right { refusal: 0, answers: Vec::new(), changes: false };
         for command in list {
-            let (answer, writes) = self.answer(Some(command), room);
+            let (answer, changes) = self.answer(Some(command), room);
             right.answers.extend(answer.numbers());
-            right.writes |= writes;
+            right.changes |= changes;
         }
         right
     }
 
-    /// The answer to a command, or to a line that has none, and whether a row is written; 9 for a command where the words are too few.
+    /// The answer to a command, or to a line that has none, and whether a row is changed; 9 for a command where the words are too few.
     fn answer(&mut self, command: Option<&Command>, room: Room) -> (Answer, bool) {
         match command {
             Some(_) if room.words < self.words() => (Answer::refused(Refusal::Lent), false),
             Some(command) => {
                 let answer = self.tally.answer(Some(*command));
-                (answer, answer.refusal == 0 && used(command.number).is_some_and(|used| used.t))
+                (answer, answer.refusal == 0 && changes(command.number))
             }
             None => (self.tally.answer(None), false),
         }
     }
 
-    /// Holds a call against what is right. Where it writes a row, the words of the sheet may hold anything afterwards.
+    /// Holds a call against what is right. Where it changes a row, the words of the sheet may hold anything afterwards.
     fn compare<T: Copy + Debug + PartialEq>(
         &mut self,
         called: impl Fn() -> String,
@@ -165,7 +165,7 @@ impl<'a> Calls<'a> {
     ) {
         self.refused += u64::from(right.refusal == Refusal::Lent as u32);
         answers.is_to_hold(&right.answers);
-        if right.writes {
+        if right.changes {
             self.sheet.may_hold(self.words());
         }
         let called = || format!("{}, {} words and room for {} lent", called(), room.words, room.answers);

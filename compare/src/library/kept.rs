@@ -29,7 +29,7 @@ const MOVED: u32 = 64;
 /// A line comes with its line feed, and a list with a part of a command behind it, once in so many times, before it comes as it should.
 const MISTAKEN: u32 = 16;
 
-/// Keeps a sheet for the named commands, one for the named lines, then as many as `count` commands and lines need.
+/// Keeps a sheet for each named list, one for the named lines, then as many as `count` commands and lines need.
 pub fn compare(library: &Library, account: &mut Account, tally: &mut Tally, seed: u64, count: u64) {
     let calls = Calls::new(library, account, tally, Draw::new(seed));
     let mut kept = Kept { calls, sitting: Sitting::new(seed, MALFORMED), sheets: 0, commands: 0, lines: 0, listed: 0 };
@@ -55,10 +55,12 @@ struct Kept<'a> {
 }
 
 impl Kept<'_> {
-    /// Runs the named commands one by one on a sheet, and the named lines on another.
+    /// Runs the commands of each named list one by one on a sheet of its own, and the named lines on another.
     fn run_named(&mut self) {
-        self.fresh();
-        named::commands().iter().for_each(|command| self.step(command));
+        for list in named::lists() {
+            self.fresh();
+            list.iter().for_each(|command| self.step(command));
+        }
         self.fresh();
         let mut lines = Vec::new();
         self.sitting.named(&mut lines);

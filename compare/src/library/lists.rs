@@ -11,13 +11,16 @@ use crate::values::Draw;
 /// Fewer numbers than this are lent beyond the answers.
 const SPARE: u32 = 32;
 
-/// Runs the named commands, then lists of `count` commands in all, each from a fresh sheet.
+/// Runs the named lists, then lists of `count` commands in all, each from a fresh sheet.
 pub fn compare(library: &Library, account: &mut Account, tally: &mut Tally, seed: u64, count: u64) {
     let mut sitting = Sitting::new(seed, 0);
     let mut lists = Lists { library, account, tally, draw: Draw::new(seed), outcomes: [0; 10] };
-    let named = named::commands();
     lists.compare(&[]);
-    lists.compare(&named);
+    let mut commands = count;
+    for list in named::lists() {
+        lists.compare(&list);
+        commands += list.len() as u64;
+    }
     let mut left = count;
     while left > 0 {
         let list = sitting.list(left);
@@ -25,7 +28,6 @@ pub fn compare(library: &Library, account: &mut Account, tally: &mut Tally, seed
         left -= list.len() as u64;
     }
     let [run, too_few, part] = [0, Refusal::Lent as usize, Refusal::Form as usize].map(|refusal| lists.outcomes[refusal]);
-    let commands = count + named.len() as u64;
     println!("{commands} commands in lists from a fresh sheet: {run} calls run one, 9 refuses {too_few}, 1 refuses {part}");
 }
 

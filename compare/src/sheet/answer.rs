@@ -45,7 +45,7 @@ impl Answer {
 pub enum Refusal {
     /// Not 45 bytes before a line feed, or a field ill formed; a list that ends within a command.
     Form = 1,
-    /// A command above 32.
+    /// A command above 33.
     Number = 2,
     /// A used row above 63, or t = 63 in 24.
     Row = 3,
@@ -61,4 +61,6 @@ pub enum Refusal {
     Reflection = 8,
     /// Too little lent: bytes for an answer line, numbers for answers, words for a sheet.
     Lent = 9,
+    /// Nothing is remembered that 33 could take back.
+    History = 11,
 }

@@ -3,7 +3,10 @@
 use super::Command;
 
 /// How many commands there are, from 0 on.
-pub const COMMANDS: u32 = 33;
+pub const COMMANDS: u32 = 34;
+
+/// The command that takes back the latest one.
+pub const TAKE_BACK: u32 = 33;
 
 /// The fields that a command uses.
 #[derive(Clone, Copy)]
@@ -23,6 +26,11 @@ pub fn used(number: u32) -> Option<Used> {
     TABLE.get(number as usize).copied()
 }
 
+/// Whether a command changes the sheet where it is done: it writes a row, or takes a command back.
+pub fn changes(number: u32) -> bool {
+    number == TAKE_BACK || used(number).is_some_and(|used| used.t)
+}
+
 const fn table() -> [Used; COMMANDS as usize] {
     let mut table = [fields(0); COMMANDS as usize];
     let mut number = 0;
@@ -36,7 +44,7 @@ const fn table() -> [Used; COMMANDS as usize] {
 const fn fields(number: u32) -> Used {
     Used {
         t: matches!(number, 0..=24),
-        a: number >= 2,
+        a: matches!(number, 2..=32),
         b: matches!(number, 3..=7 | 9 | 11..=15 | 19 | 20 | 22 | 23 | 25 | 27 | 28 | 31),
         values: match number {
             1 | 9 => 3,

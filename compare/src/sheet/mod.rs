@@ -1,15 +1,20 @@
-//! Document 01's plain sheet, written from the document over the Rust's own functions: rows, commands, answers, one step.
+//! Document 01's plain sheet, written from the document over the Rust's own functions: rows, commands, answers, one step. It takes steps
+//! back as request a of document 02 has it.
 
 mod answer;
 mod fields;
+mod history;
 pub mod lines;
 pub mod stream;
 mod work;
 
 pub use answer::{Answer, Refusal};
-pub use fields::{used, Used, COMMANDS};
+pub use fields::{changes, used, Used, COMMANDS, TAKE_BACK};
+pub use history::REMEMBERED;
 
 use crate::Vec3;
+use history::{History, Step};
+use std::mem;
 use std::panic::{catch_unwind, AssertUnwindSafe};
 use work::{work, Effect};
 
@@ -72,10 +77,11 @@ impl Command {
     }
 }
 
-/// The sheet.
+/// The sheet: its rows, and what can be taken back.
 #[derive(Clone)]
 pub struct Sheet {
     rows: [Row; ROWS as usize],
+    history: History,
 }
 
 impl Default for Sheet {
@@ -85,9 +91,9 @@ impl Default for Sheet {
 }
 
 impl Sheet {
-    /// A fresh sheet: all rows are empty.
+    /// A fresh sheet: all rows are empty, and nothing is remembered.
     pub fn fresh() -> Sheet {
-        Sheet { rows: [Row::EMPTY; ROWS as usize] }
+        Sheet { rows: [Row::EMPTY; ROWS as usize], history: History::new() }
     }
 
     pub fn rows(&self) -> &[Row] {
@@ -112,12 +118,12 @@ impl Sheet {
             Effect::Point(v) => self.write(command.t, Row { kind: Kind::Point, v }),
             Effect::Direction(v) => self.write(command.t, Row { kind: Kind::Direction, v }),
             Effect::Pair(first, second) => {
-                self.write(command.t + 1, Row { kind: Kind::Direction, v: second });
-                self.write(command.t, Row { kind: Kind::Direction, v: first })
+                self.write_pair(command.t, [first, second].map(|v| Row { kind: Kind::Direction, v }))
             }
             Effect::Number(x) => Answer::number(x),
             Effect::Whole(n) => Answer::whole(n),
             Effect::Show => Answer::shows(command.a, &a),
+            Effect::TakeBack => self.take_back()?,
         })
     }
 
@@ -143,8 +149,32 @@ impl Sheet {
         Ok((a, b))
     }
 
+    /// Writes row t.
     fn write(&mut self, t: u32, row: Row) -> Answer {
-        self.rows[t as usize] = row;
+        let old = self.put(t, row);
+        self.history.remember(Step { t, old, behind: None });
         Answer::shows(t, &row)
+    }
+
+    /// Writes the rows t and t + 1.
+    fn write_pair(&mut self, t: u32, [first, second]: [Row; 2]) -> Answer {
+        let (old, behind) = (self.put(t, first), self.put(t + 1, second));
+        self.history.remember(Step { t, old, behind: Some(behind) });
+        Answer::shows(t, &first)
+    }
+
+    /// Puts back what the latest command that is remembered wrote over, if there is one.
+    fn take_back(&mut self) -> Result<Answer, Refusal> {
+        let Step { t, old, behind } = self.history.take().ok_or(Refusal::History)?;
+        self.put(t, old);
+        if let Some(behind) = behind {
+            self.put(t + 1, behind);
+        }
+        Ok(Answer::shows(t, &old))
+    }
+
+    /// Puts a row in place of another, which is handed back.
+    fn put(&mut self, t: u32, row: Row) -> Row {
+        mem::replace(&mut self.rows[t as usize], row)
     }
 }

@@ -14,6 +14,8 @@ pub enum Effect {
     Whole(u32),
     /// Shows a.
     Show,
+    /// Takes back the latest command that wrote a row.
+    TakeBack,
 }
 
 /// 2^-126, the least `length_squared` of a vector that has a direction.
@@ -65,6 +67,7 @@ pub fn work(number: u32, a: &Row, b: &Row, [u, v, w]: [f32; 3]) -> Result<Effect
         30 => Ok(Effect::Whole(a.max_position() as u32)),
         31 => Ok(Effect::Whole(a.cmple(b).bitmask())),
         32 => Ok(Effect::Show),
+        33 => Ok(Effect::TakeBack),
         _ => Err(Refusal::Number),
     }
 }

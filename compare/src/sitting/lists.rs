@@ -15,7 +15,7 @@ impl Sitting {
     /// Takes a fresh sheet, and tells how many commands it is to have, at most `most`: few, or enough to fill all rows, or to fill them many
     /// times.
     pub fn begin(&mut self, most: u64) -> u64 {
-        self.sheet = Sheet::fresh();
+        (self.sheet, self.last, self.back) = (Sheet::fresh(), None, 0);
         let longest = self.draw.one_of(&LONGEST);
         u64::from(1 + self.draw.below(longest)).min(most)
     }
@@ -30,7 +30,7 @@ impl Sitting {
     pub fn long_list(&mut self, count: usize) -> Vec<Command> {
         let next = |sitting: &mut Sitting| {
             let command = sitting.command();
-            sitting.sheet.try_run(&command);
+            sitting.run(&command);
             command
         };
         (0..count).map(|_| next(self)).collect()
@@ -45,7 +45,7 @@ impl Sitting {
             let place = self.draw.below(4) as usize;
             *places[place] = wide(&mut self.draw, *places[place]);
         }
-        self.sheet.try_run(&command);
+        self.run(&command);
         command
     }
 }

@@ -1,35 +1,51 @@
 //! Sittings by a seed: command lines that build on rows of earlier ones, reach every outcome of every command, and malformed lines.
 
+mod back;
 mod choose;
 mod lists;
 pub mod named;
 mod numbers;
+pub mod remembered;
 mod spoil;
 pub mod stored;
 
 use crate::sheet::lines::{read, write_command};
-use crate::sheet::{used, Command, Sheet, COMMANDS};
+use crate::sheet::{used, Command, Sheet, COMMANDS, TAKE_BACK};
 use crate::values::{float, Draw};
+use back::{brought_back, Last, Manner};
 use choose::{row_fields, unused_row};
 use numbers::values;
 
 /// How many lines a piece has.
 const PIECE: u64 = 16_384;
 
+/// Within a run of 33 another command comes once in so many times.
+const WITHIN: u32 = 128;
+
 /// Numbers of commands that there are not.
 const NO_COMMANDS: [u32; 10] = [COMMANDS, COMMANDS + 1, 40, 63, 64, 99, 100, 255, 256, 999];
 
 pub struct Sitting {
     draw: Draw,
-    /// The sheet as the lines so far leave it.
+    /// The sheet as the lines so far leave it, and the last of their commands.
     sheet: Sheet,
+    last: Last,
     /// One line in so many is malformed; none if it is 0.
     malformed: u32,
+    /// How commands are taken back, and how many 33 of a run are still to come.
+    manner: Manner,
+    back: u32,
 }
 
 impl Sitting {
     pub fn new(seed: u64, malformed: u32) -> Sitting {
-        Sitting { draw: Draw::new(seed), sheet: Sheet::fresh(), malformed }
+        let (draw, sheet) = (Draw::new(seed), Sheet::fresh());
+        Sitting { draw, sheet, last: None, malformed, manner: Manner::Searching, back: 0 }
+    }
+
+    /// A sitting to be timed: no line is malformed, and little is taken back.
+    pub fn ordinary(seed: u64) -> Sitting {
+        Sitting { manner: Manner::Ordinary, ..Sitting::new(seed, 0) }
     }
 
     /// The pieces of `count` lines. If there are malformed ones, the last line has no line feed.
@@ -56,24 +72,40 @@ impl Sitting {
             out.extend_from_slice(&line);
             out.push(b'\n');
         }
-        self.run(&out[start..out.len() - 1]);
+        self.run_line(&out[start..out.len() - 1]);
     }
 
-    fn run(&mut self, line: &[u8]) {
+    fn run_line(&mut self, line: &[u8]) {
         if let Some(command) = read(line) {
-            self.sheet.try_run(&command);
+            self.run(&command);
         }
     }
 
-    /// A command. Points are made more often than the rest is done, so that the rows stay fresh.
+    fn run(&mut self, command: &Command) {
+        self.last = self.sheet.try_run(command).map(|answer| (command.number, answer));
+    }
+
+    /// A command: a 33 while a run of them lasts, else one that works; now and then such a one comes within a run.
     fn command(&mut self) -> Command {
+        if self.back == 0 {
+            self.back = self.manner.run(&mut self.draw, self.last);
+        }
+        if self.back == 0 || self.draw.once_in(WITHIN) {
+            return self.work();
+        }
+        self.back -= 1;
+        self.command_of(TAKE_BACK)
+    }
+
+    /// A command that works on the rows, or has any fields. Points are made more often than the rest is done, so that the rows stay fresh.
+    fn work(&mut self) -> Command {
         let d = &mut self.draw;
         match d.below(64) {
             0 => any_command(d),
             1 => Command { number: d.one_of(&NO_COMMANDS), ..any_command(d) },
             2..=16 => self.command_of(1),
             _ => {
-                let number = d.below(COMMANDS);
+                let number = d.below(TAKE_BACK);
                 self.command_of(number)
             }
         }
@@ -83,7 +115,8 @@ impl Sitting {
     fn command_of(&mut self, number: u32) -> Command {
         let d = &mut self.draw;
         let used = used(number).expect("there is the command");
-        let (t, a, b) = row_fields(d, &self.sheet, number, &used);
+        let brought_back = brought_back(self.last).filter(|_| d.once_in(2));
+        let (t, a, b) = row_fields(d, &self.sheet, number, &used, brought_back);
         let rows = [a, b].map(|row| self.sheet.rows()[(row % 64) as usize].numbers().map(f32::to_bits));
         Command { number, t, a, b, values: values(d, number, &used, rows, self.sheet.rows()) }
     }

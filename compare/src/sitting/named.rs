@@ -1,10 +1,11 @@
 //! The lines that every comparison begins with: document 01's listing, the named cases of cases.txt, each field of each command
-//! refused, malformed lines of each kind.
+//! refused, all that can be remembered taken back, malformed lines of each kind.
 
-use super::Sitting;
+use super::{remembered, Sitting};
 use crate::cases::{cases, CASES};
 use crate::sheet::lines::{read, write_command};
 use crate::sheet::{Command, COMMANDS};
+use std::iter;
 
 /// A row that the named cases leave empty, and one that they leave a direction.
 const EMPTY: u32 = 20;
@@ -61,20 +62,24 @@ const INFINITY: u32 = 0x7f80_0000;
 /// How long a long line is.
 const LONG: usize = 100_000;
 
+/// The named lists, each for a fresh sheet: the named commands, and those that take back all that can be remembered.
+pub fn lists() -> impl Iterator<Item = Vec<Command>> {
+    iter::once(commands()).chain(remembered::lists())
+}
+
 /// The named commands: document 01's listing, the named cases, each field of each command refused.
-pub fn commands() -> Vec<Command> {
+fn commands() -> Vec<Command> {
     let listing = LISTING.lines().map(|line| read(line.as_bytes()).expect("it is well formed"));
     let named = cases(CASES).into_iter().map(|case| case.command);
     listing.chain(named).chain((0..COMMANDS).flat_map(refused)).collect()
 }
 
 impl Sitting {
-    /// Appends the lines of the named commands, and malformed lines.
+    /// Appends the lines of the named lists, all for one sheet, and malformed lines.
     pub fn named(&mut self, out: &mut Vec<u8>) {
-        for command in commands() {
-            let start = out.len();
+        for command in lists().flatten() {
             write_command(&command, out);
-            self.run(&out[start..out.len() - 1]);
+            self.run(&command);
         }
         LINES.iter().for_each(|line| self.given(line, out));
         self.given(&[b' '; LONG], out);
@@ -84,12 +89,12 @@ impl Sitting {
     fn given(&mut self, line: &[u8], out: &mut Vec<u8>) {
         out.extend_from_slice(line);
         out.push(b'\n');
-        self.run(line);
+        self.run_line(line);
     }
 }
 
 /// A command with each of its fields in turn as it must not be: a row above 63, an empty source, a value that is not finite. The
-/// other fields are right, and so is each field that the command does not use.
+/// other fields are right, and so is each field that the command does not use: 33 is done in each case.
 fn refused(number: u32) -> Vec<Command> {
     let right = Command { number, t: 1, a: DIRECTION, b: DIRECTION, values: [ONE; 3] };
     let mut commands = vec![

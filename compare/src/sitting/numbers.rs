@@ -18,6 +18,9 @@ const SQUARES: [i32; 8] = [-124, -125, -126, -127, -128, -149, -150, 128];
 const LARGE: [u32; 8] =
     [0x7f7f_ffff, 0xff7f_ffff, 0x7f7f_fffe, 0xff7f_fffe, 0x7f00_0000, 0xff00_0000, 0x7f61_b1e6, 0xff61_b1e6];
 
+/// Infinities and NaNs.
+const NOT_FINITE: [u32; 6] = [0x7f80_0000, 0xff80_0000, 0x7fc0_0000, 0xffc0_0001, 0x7f80_0001, u32::MAX];
+
 /// The values u, v, w of a command that reads the vectors `rows`.
 pub fn values(d: &mut Draw, number: u32, used: &Used, rows: [Vector; 2], sheet: &[Row]) -> [u32; 3] {
     let mut values = draw_values(d, number, rows, sheet);
@@ -25,11 +28,15 @@ pub fn values(d: &mut Draw, number: u32, used: &Used, rows: [Vector; 2], sheet: 
         values = draw_values(d, number, rows, sheet);
     }
     for value in &mut values[used.values..] {
-        *value = if d.once_in(2) { 0 } else { d.word() };
+        *value = match d.below(8) {
+            0..=3 => 0,
+            4 => d.one_of(&NOT_FINITE),
+            _ => d.word(),
+        };
     }
     if used.values > 0 && d.once_in(128) {
         let place = d.below(used.values as u32) as usize;
-        values[place] = d.one_of(&[0x7f80_0000, 0xff80_0000, 0x7fc0_0000, 0xffc0_0001, 0x7f80_0001, u32::MAX]);
+        values[place] = d.one_of(&NOT_FINITE);
     }
     values
 }

@@ -2,7 +2,7 @@
 
 use compare::library::Library;
 use compare::sheet::lines::{read, write_answer};
-use compare::sheet::{used, Answer, Command, Refusal, Sheet};
+use compare::sheet::{changes, Answer, Command, Refusal, Sheet};
 use std::cell::RefCell;
 
 /// The words of a sheet here. The first is the place of the sheet among those that there were, of which place 0 is the fresh one.
@@ -33,7 +33,7 @@ fn answer(words: &mut [u32], command: &Command) -> Answer {
     SHEETS.with_borrow_mut(|sheets| {
         let mut sheet = sheets[words[0] as usize].clone();
         let answer = sheet.run(command);
-        if answer.refusal == 0 && used(command.number).is_some_and(|used| used.t) {
+        if answer.refusal == 0 && changes(command.number) {
             words[0] = sheets.len() as u32;
             sheets.push(sheet);
         }

@@ -9,7 +9,7 @@ use std::time::Instant;
 /// Times `turns` turns over a list of `count` commands, the library first in the even turns and the plain sheet in the odd ones. Says whether
 /// their answers are equal.
 pub fn time(turns: usize, count: usize) -> bool {
-    let list = Sitting::new(1, 0).long_list(count);
+    let list = Sitting::ordinary(1).long_list(count);
     let numbers: Vec<u32> = list.iter().flat_map(Command::numbers).collect();
     let mut answers = [(); 2].map(|()| vec![0; count * ANSWER]);
     let mut times = [(); 2].map(|()| Vec::new());
