@@ -26,7 +26,7 @@ below p (suc k) zero t h = and-l (p zero) (allBelow (λ (n : ℕ). p (suc n)) k)
 below p (suc k) (suc n) t h = below (λ (m : ℕ). p (suc m)) k n (and-r (p zero) (allBelow (λ (n : ℕ). p (suc n)) k) t) (le-of-suc-le-suc h)
 
 -- ---- above `last` all is as at the number next to it
-entry-above : (n : ℕ) → last < n → entryAt n ≡ entryAt (suc last)
+pub entry-above : (n : ℕ) → last < n → entryAt n ≡ entryAt (suc last)
 unfolding entryAt table
 entry-above n h = List·getD-eq-default table _ h
 

@@ -8,10 +8,11 @@ use lib.Dec.{T, ltb, eqb}
 use borrow.Author.Tests.{ltb-false, eqb-false, eq-eqb}
 use lib.Ieee.{binary32, ofBits}
 use Rattle.commands.specs.declared.command.Command.{Command}
-use Rattle.commands.specs.Codes.{last, rowCount}
+use Rattle.laws.proofs.numbers.BoolLaws.{and-false}
+use Rattle.commands.specs.Codes.{last, undo, rowCount}
 use Rattle.commands.specs.Fields.{Sources}
 use Rattle.commands.specs.Commands.{entryAt}
-use Rattle.commands.specs.Refusals.{Refusal, refuses, first, early, late, refusals, refusalOf, unknown, noRow, badSource, badValue, noRefraction, noDirection, notFinite}
+use Rattle.commands.specs.Refusals.{Refusal, refuses, first, early, late, refusals, refusalOf, unknown, noRow, nothingRemembered, badSource, badValue, noRefraction, noDirection, notFinite}
 
 -- a test that failed, as a type
 pub denied : (b : Bool) → b ≡ false → T (not b)
@@ -48,26 +49,33 @@ none-first k true rest e = absurd (omega (arith, e))
 none-first k false rest e = (refl, e)
 
 -- a command that is done: no condition holds
-pub record Done (c : Command) (s : Sources) : Type 0 where
+pub record Done (c : Command) (m : Bool) (s : Sources) : Type 0 where
   pub known : unknown (c .number) ≡ false
   pub rows-there : noRow c ≡ false
+  pub remembered : nothingRemembered (c .number) m ≡ false
   pub sources-fit : badSource (c .number) (s .a .kind) (s .b .kind) ≡ false
   pub values-fit : badValue (c .number) (ofBits binary32 (c .u)) (ofBits binary32 (c .v)) (ofBits binary32 (c .w)) ≡ false
   pub refracts : noRefraction (c .number) s ≡ false
   pub directed : noDirection (c .number) s ≡ false
   pub finite-result : notFinite (entryAt (c .number) .result s) ≡ false
 
-pub done : (c : Command) (s : Sources) → refusalOf c s ≡ 0 → Done c s
+pub done : (c : Command) (m : Bool) (s : Sources) → refusalOf c m s ≡ 0 → Done c m s
 unfolding refusalOf refusals early late
-done c s e =
+done c m s e =
     let r2 = none-first 1 _ _ e in
     let r3 = none-first 2 _ _ (r2 .1) in
-    let r4 = none-first 3 _ _ (r3 .1) in
+    let r11 = none-first 10 _ _ (r3 .1) in
+    let r4 = none-first 3 _ _ (r11 .1) in
     let r5 = none-first 4 _ _ (r4 .1) in
     let r8 = none-first 7 _ _ (r5 .1) in
     let r7 = none-first 6 _ _ (r8 .1) in
     let r6 = none-first 5 _ _ (r7 .1) in
-    record { known = r2 .0; rows-there = r3 .0; sources-fit = r4 .0; values-fit = r5 .0; refracts = r8 .0; directed = r7 .0; finite-result = r6 .0 }
+    record { known = r2 .0; rows-there = r3 .0; remembered = r11 .0; sources-fit = r4 .0; values-fit = r5 .0; refracts = r8 .0; directed = r7 .0; finite-result = r6 .0 }
+
+-- ---- 11
+pub some-remembered : (n : ℕ) → nothingRemembered n true ≡ false
+unfolding nothingRemembered
+some-remembered n = and-false (eqb n undo)
 
 -- ---- 2 and 3
 pub known-number : (n : ℕ) → unknown n ≡ false → n ≤ last

@@ -28,9 +28,9 @@ first-append (r ∷ rest) ys h = go (r .holds) (first-append rest ys (h .1))
     go true k = simp (h .0)
     go false k = k
 
-pub early-numbered : (c : Command) (kindA kindB : ℕ) → Numbered (early c kindA kindB)
+pub early-numbered : (c : Command) (m : Bool) (kindA kindB : ℕ) → Numbered (early c m kindA kindB)
 unfolding early
-early-numbered c kindA kindB = (refl, (refl, (refl, (refl, tt))))
+early-numbered c m kindA kindB = (refl, (refl, (refl, (refl, (refl, tt)))))
 
 -- a refusal by one number, else by another
 unless-either : (j k : ℕ) (e : ModelEffect) → unlessRefused (cond (eqb j 0) k j) e ≡ unlessRefused j (unlessRefused k e)
@@ -42,16 +42,16 @@ unless-either j k e = go (eqb j 0) refl
     go false h = simp h
 
 -- the early refusal where there is one, else what comes after
-pub early-or-late : (c : Command) (a b : ModelRow) → commandEffect c a b ≡ unlessRefused (first (early c (a .kind) (b .kind))) (lateEffect c (sourcesOf c a b))
+pub early-or-late : (c : Command) (a b : ModelRow) (m : Bool) → commandEffect c a b m ≡ unlessRefused (first (early c m (a .kind) (b .kind))) (lateEffect c (sourcesOf c a b))
 unfolding commandEffect lateEffect refusalOf refusals
-early-or-late c a b =
-    ap (λ (k : ℕ). unlessRefused k done) (first-append xs ys (early-numbered c (a .kind) (b .kind))) ∙ unless-either (first xs) (first ys) done
+early-or-late c a b m =
+    ap (λ (k : ℕ). unlessRefused k done) (first-append xs ys (early-numbered c m (a .kind) (b .kind))) ∙ unless-either (first xs) (first ys) done
   where
     s : Sources
     s = sourcesOf c a b
 
     xs : List Refusal
-    xs = early c (a .kind) (b .kind)
+    xs = early c m (a .kind) (b .kind)
 
     ys : List Refusal
     ys = late (c .number) s

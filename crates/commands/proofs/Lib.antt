@@ -8,3 +8,4 @@ pub mod table
 pub mod CommandLaws
 pub mod claim
 pub mod ClaimLaws
+pub mod history

@@ -7,13 +7,13 @@ use lib.ListN.{length}
 use Rattle.vector.specs.Vectors.{ZERO}
 use Rattle.vector.specs.ExactVectors.{F32Vec, FiniteVec, Direction, NearlyOrthogonal}
 use Rattle.commands.specs.declared.command.Command.{Command}
-use Rattle.commands.specs.Codes.{rowCount, emptyKind, directionKind}
-use Rattle.commands.specs.Rows.{ModelRow, State, rowAt, fresh}
+use Rattle.commands.specs.Codes.{rowCount, emptyKind, directionKind, historyDepth}
+use Rattle.commands.specs.Rows.{ModelRow, Snapshot, State, rowAt, fresh}
 use Rattle.commands.specs.Fields.{Sources, sourcesOf}
 use Rattle.commands.specs.Commands.{entryAt}
 use Rattle.commands.specs.Refusals.{refusalOf}
 use Rattle.commands.specs.Answers.{ModelAnswer, refused}
-use Rattle.commands.specs.Model.{Stepped, stepped, stepOf, runFrom}
+use Rattle.commands.specs.Model.{stepped, isSome, stepOf, runFrom}
 
 -- "each empty (kind 0, its numbers +0), a point (1) or a direction (2)"; "every number in a row is finite and the exact squared length of every direction lies
 -- within 2^-18 of 1"
@@ -24,16 +24,27 @@ pub record SoundRow (r : ModelRow) : Type 0 where
   pub numbers-finite : FiniteVec (r .numbers)
   pub unit : r .kind ≡ directionKind → Direction (r .numbers)
 
+pub record SoundRows (rows : List ModelRow) : Type 0 where
+  pub count : length rows ≡ rowCount
+  pub each-row : (i : ℕ) → SoundRow (rowAt rows i)
+
+-- "The promises about finite numbers and directions cover the rows that 33 brings back"
+abbrev pub SoundHistory : List Snapshot → Type 0
+SoundHistory [] = Unit {0}
+SoundHistory (p ∷ rest) = SoundRows (p .rows) × SoundHistory rest
+
 pub record Sound (s : State) : Type 0 where
-  pub count : length (s .rows) ≡ rowCount
-  pub each-row : (i : ℕ) → SoundRow (rowAt (s .rows) i)
+  pub rows : SoundRows (s .rows)
+  pub history : SoundHistory (s .history)
+  -- "the last 64 such commands are remembered"
+  pub depth : length (s .history) ≤ historyDepth
 
 -- what a command reads in a state, and its refusal there, 0 where there is none: "A command is done if it is not refused"
 abbrev pub sourcesAt : State → Command → Sources
 sourcesAt s c = sourcesOf c (rowAt (s .rows) (c .a)) (rowAt (s .rows) (c .b))
 
 abbrev pub refusalAt : State → Command → ℕ
-refusalAt s c = refusalOf c (sourcesAt s c)
+refusalAt s c = refusalOf c (isSome (s .history)) (sourcesAt s c)
 
 -- "For each 24 done, the two directions it wrote and the one it read have exact dot products, two by two, of at most 2^-16 in size": "the direction read is
 -- row a before the command, the two written are rows t and t+1 right after it"
@@ -46,7 +57,7 @@ pub record Orthogonal (before after : State) (c : Command) : Type 0 where
 pub record Well (s : State) (c : Command) : Type 0 where
   -- refused exactly when the conditions say so, and under the number they give
   pub refused-exactly : stepOf s c .answer .refusal ≡ refusalAt s c
-  -- "a refusal changes no row and gives that number with zeros" (demand 1)
+  -- "a refusal changes no row and gives that number with zeros" (demand 1), and leaves what is remembered as it is
   pub kept : (k : ℕ) → refusalAt s c ≡ suc k → stepOf s c ≡ stepped s (refused (suc k))
   pub orthogonal : refusalAt s c ≡ 0 → c .number ≡ 24 → Orthogonal s (stepOf s c .state) c
   -- "No command done gives a Rust function arguments that break its glam_assert condition"

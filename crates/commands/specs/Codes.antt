@@ -1,4 +1,4 @@
--- The numbers of document 01 that have a meaning of their own.
+-- The numbers of documents 01 and 02 that have a meaning of their own.
 use Prim.Native.Nat.{ℕ}
 
 -- "64 rows, 0 to 63"
@@ -7,7 +7,18 @@ rowCount = 64
 
 -- the highest command in use
 abbrev pub last : ℕ
-last = 32
+last = 33
+
+-- the highest of the commands that write rows, "0 to 24", and the one that takes them back
+abbrev pub lastWriting : ℕ
+lastWriting = 24
+
+abbrev pub undo : ℕ
+undo = 33
+
+-- "the last 64 such commands are remembered"
+abbrev pub historyDepth : ℕ
+historyDepth = 64
 
 -- ---- kinds
 -- "each empty (kind 0, its numbers +0), a point (1) or a direction (2)"
@@ -32,7 +43,7 @@ wholeKind = 4
 abbrev pub illFormed : ℕ
 illFormed = 1
 
--- "2, command above 32"
+-- "2, command above 32"; "From here on refusal 2 begins above the highest command in use"
 abbrev pub unknownCommand : ℕ
 unknownCommand = 2
 
@@ -63,3 +74,7 @@ allReflected = 8
 -- "9, fewer than 43 bytes lent for an answer line": whatever the calling program lends is too short
 abbrev pub lentTooShort : ℕ
 lentTooShort = 9
+
+-- "Command 33 with nothing remembered is refused by 11"
+abbrev pub historyEmpty : ℕ
+historyEmpty = 11

@@ -1,4 +1,4 @@
--- The table of commands (document 01, "The plain sheet", the list of commands): for each number the fields that it uses, the kinds that its sources may have,
+-- The table of commands (document 01, "The plain sheet", the list of commands; document 02): for each number the fields that it uses, the kinds that its sources may have,
 -- what it works out by the Rust function, and what that function asserts by glam_assert.
 use Prim.Native.Nat.{ℕ}
 use mathlib.Core.Bool.{Bool, true, cond, not}
@@ -22,7 +22,7 @@ use Rattle.vector.specs.Orthogonal.{anyOrthogonalVector, anyOrthonormalPair}
 use Rattle.vector.specs.Asserts.{assertsClampLength, assertsProjectOnto, assertsRejectFrom, assertsProjectOntoNormalized, assertsRejectFromNormalized, assertsReflect, assertsRefract, assertsAngleBetween, assertsAnyOrthonormalPair}
 use Rattle.commands.specs.Codes.{emptyKind}
 use Rattle.commands.specs.Fields.{Uses, usesNone, usesT, usesTUVW, usesTA, usesTAU, usesTAUV, usesTAB, usesTABU, usesTABUVW, usesA, usesAB, Sources}
-use Rattle.commands.specs.Results.{Result, Empties, Point, Aim, Aims, Number, Whole, Shows, isDirection}
+use Rattle.commands.specs.Results.{Result, Empties, Point, Aim, Aims, Number, Whole, Shows, Undoes, isDirection}
 
 -- the kinds that the sources may have: "A source may be of either kind unless a direction is asked for"
 pub data Kinds : Type 0 where
@@ -117,6 +117,8 @@ table =
     ∷ entry usesAB Filled (ofAB Whole (λ (a b : Vec3). bitmask (cmple a b)))
     -- 32 shows a
     ∷ entry usesA Filled (λ (s : Sources). Shows (s .at) (s .a))
+    -- 33 takes back
+    ∷ entry usesNone Filled (λ (s : Sources). Undoes)
     ∷ []
 
 -- the row of a command; one that is not in the table uses nothing, and 2 refuses it

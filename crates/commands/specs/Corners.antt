@@ -1,8 +1,9 @@
 -- All marked corners of document 01 in one computed check: those of scalars and of vectors, and those of the sheet with its listing, run on the reference
--- model. Values are bits.
+-- model; and corners of command 33 (document 02, a). Values are bits.
 use mathlib.Core.Path.{_≡_, refl}
 use mathlib.Core.List.{List, [], _∷_, _++_}
 use Prim.Native.Nat.{ℕ}
+use lib.ListN.{replicate, drop}
 use lib.Ieee as Ieee
 use Rattle.laws.specs.Exact as Exact
 use Rattle.laws.specs.WholeRoot as WholeRoot
@@ -47,6 +48,17 @@ aimed x y z = command 1 0 0 0 x y z ∷ command 2 1 0 0 0 0 0 ∷ []
 abbrev refracted : ℕ → List Command
 refracted u = aimed 0x3f800000 0 0 ++ (command 1 2 0 0 0 0x3f800000 0 ∷ command 2 3 2 0 0 0 0 ∷ command 23 4 1 3 u 0 0 ∷ [])
 
+-- the point (x, 0, 0) into row t, and a 33, with fields that it does not use
+abbrev pointInto : ℕ → ℕ → Command
+pointInto t x = command 1 t 0 0 x 0 0
+
+abbrev back : Command
+back = command 33 999 999 999 0x7fc00000 0x7fc00000 0x7fc00000
+
+-- (0, 0, 1) in row 0 and its direction in row 1, a point in row 3, and the pair of 24 in rows 2 and 3
+abbrev paired : List Command
+paired = aimed 0 0 0x3f800000 ++ (pointInto 3 0x40000000 ∷ command 24 2 1 0 0 0 0 ∷ [])
+
 -- the last answer
 abbrev lastOf : List ModelAnswer → ModelAnswer
 lastOf [] = refused 0
@@ -84,9 +96,34 @@ pub record Corners : Type 0 where
   above-four : lastOf (answersTo (refracted 0x40800001)) ≡ refused 5
   quarter-taken : lastOf (answersTo (refracted 0x3e800000)) .refusal ≡ 0
   below-quarter : lastOf (answersTo (refracted 0x3e7fffff)) ≡ refused 5
+  -- document 02, a: "From here on refusal 2 begins above the highest command in use"
+  above-last : answersTo (command 34 0 0 0 0 0 0 ∷ []) ≡ refused 2 ∷ []
+  -- "Command 33 with nothing remembered is refused by 11", whatever its fields
+  nothing-yet : answersTo (command 33 0 0 0 0 0 0 ∷ back ∷ []) ≡ refused 11 ∷ refused 11 ∷ []
+  -- "the answer shows that command's row t as it is now": empty, or what "a mistyped target" had lost
+  point-back : lastOf (answersTo (pointInto 5 0x3f800000 ∷ back ∷ [])) ≡ answer 0 5 0 0 0 0
+  lost-back : lastOf (answersTo (pointInto 0 0x3f800000 ∷ pointInto 0 0x40000000 ∷ back ∷ [])) ≡ answer 0 0 1 0x3f800000 0 0
+  emptied-back : lastOf (answersTo (pointInto 0 0x3f800000 ∷ command 0 0 0 0 0 0 0 ∷ back ∷ [])) ≡ answer 0 0 1 0x3f800000 0 0
+  -- 0 on an empty row is remembered too
+  empty-back : answersTo (command 0 7 0 0 0 0 0 ∷ back ∷ back ∷ []) ≡ answer 0 7 0 0 0 0 ∷ answer 0 7 0 0 0 0 ∷ refused 11 ∷ []
+  -- 24: row t is shown, and row t+1 is as it was, a point or empty
+  pair-back : drop 4 (answersTo (paired ++ (back ∷ command 32 0 3 0 0 0 0 ∷ []))) ≡ answer 0 2 0 0 0 0 ∷ answer 0 3 1 0x40000000 0 0 ∷ []
+  pair-empty : drop 3 (answersTo (aimed 0 0 0x3f800000 ++ (command 24 2 1 0 0 0 0 ∷ back ∷ command 32 0 3 0 0 0 0 ∷ []))) ≡ answer 0 2 0 0 0 0 ∷ refused 4 ∷ []
+  -- "Refused steps and measures are not remembered": a sum with an empty source and a length, and 33 takes back the point before them
+  others-kept :
+      drop 1 (answersTo (pointInto 3 0x3f800000 ∷ command 3 3 3 9 0 0 0 ∷ command 26 0 3 0 0 0 0 ∷ back ∷ []))
+      ≡ refused 4 ∷ answer 0 0 3 0x3f800000 0 0 ∷ answer 0 3 0 0 0 0 ∷ []
+  -- "nothing can be redone": a second 33 takes back the command before, a third finds nothing
+  one-by-one :
+      drop 2 (answersTo (pointInto 0 0x3f800000 ∷ pointInto 1 0x40000000 ∷ back ∷ back ∷ back ∷ []))
+      ≡ answer 0 1 0 0 0 0 ∷ answer 0 0 0 0 0 0 ∷ refused 11 ∷ []
+  -- "the last 64 such commands are remembered": of 65 points into row 0 the first stays
+  first-stays :
+      drop 128 (answersTo (pointInto 0 0x40000000 ∷ (replicate 64 (pointInto 0 0x3f800000) ++ replicate 65 back)))
+      ≡ answer 0 0 1 0x40000000 0 0 ∷ refused 11 ∷ []
 
 pub corners : Corners
-unfolding Model.runBy Model.stepOf Model.applied Effects.effectOf Effects.directionIn Effects.unlessRefused Effects.commandEffect Rows.fresh Rows.rowAt Rows.withRow Commands.table Commands.entryAt Commands.allows Results.directionOf Refusals.unknown Refusals.noRow Refusals.badSource Refusals.outOfOrder Refusals.outOfRange Refusals.badValue Refusals.noRefraction Refusals.isNothing Refusals.lacksDirection Refusals.noFactor Refusals.noDirection Refusals.notFinite Refusals.first Refusals.early Refusals.late Refusals.refusals Refusals.refusalOf Comparisons.isFinite Normalizing.tryNormalize Normalizing.usable Products.length Products.lengthSquared Products.lengthRecip Products.dot Operators.mulNumber Operators.numberMul Operators.sub Optics.refract Optics.refractK Orthogonal.anyOrthonormalPair Sign.signum Sign.copysign Sign.abs Root.root Root.rootUnits WholeRoot.wholeRoot Exact.sizeIn Exact.negative Ieee.round Ieee.neg Ieee.div Ieee.sub Ieee.le Ieee.lt Ieee.eq Ieee.add Ieee.sum Ieee.mul Ieee.ofBits Ieee.toBits
+unfolding Model.runBy Model.stepOf Model.applied Model.remembering Model.restored Effects.effectOf Effects.directionIn Effects.unlessRefused Effects.commandEffect Rows.fresh Rows.rowAt Rows.withRow Commands.table Commands.entryAt Commands.allows Results.directionOf Refusals.unknown Refusals.noRow Refusals.nothingRemembered Refusals.badSource Refusals.outOfOrder Refusals.outOfRange Refusals.badValue Refusals.noRefraction Refusals.isNothing Refusals.lacksDirection Refusals.noFactor Refusals.noDirection Refusals.notFinite Refusals.first Refusals.early Refusals.late Refusals.refusals Refusals.refusalOf Comparisons.isFinite Normalizing.tryNormalize Normalizing.usable Products.length Products.lengthSquared Products.lengthRecip Products.dot Operators.mulNumber Operators.numberMul Operators.sub Optics.refract Optics.refractK Orthogonal.anyOrthonormalPair Sign.signum Sign.copysign Sign.abs Root.root Root.rootUnits WholeRoot.wholeRoot Exact.sizeIn Exact.negative Ieee.round Ieee.neg Ieee.div Ieee.sub Ieee.le Ieee.lt Ieee.eq Ieee.add Ieee.sum Ieee.mul Ieee.ofBits Ieee.toBits
 corners = record {
   scalars = Scalars.corners;
   vectors = Vectors.corners;
@@ -104,4 +141,15 @@ corners = record {
   above-four = refl;
   quarter-taken = refl;
   below-quarter = refl;
+  above-last = refl;
+  nothing-yet = refl;
+  point-back = refl;
+  lost-back = refl;
+  emptied-back = refl;
+  empty-back = refl;
+  pair-back = refl;
+  pair-empty = refl;
+  others-kept = refl;
+  one-by-one = refl;
+  first-stays = refl;
 }

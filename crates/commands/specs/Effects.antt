@@ -1,4 +1,4 @@
--- What a command comes to on the two rows that it reads: rows to write, or an answer alone.
+-- What a command comes to on the two rows that it reads: rows to write or to bring back, or an answer alone.
 use Prim.Native.Nat.{ℕ}
 use mathlib.Core.Bool.{Bool, cond}
 use lib.Dec.{eqb}
@@ -8,19 +8,20 @@ use Rattle.vector.specs.declared.vec3.normalizing.Normalized.the-variants.{Unit
 use Rattle.vector.specs.Vectors.{ZERO}
 use Rattle.commands.specs.declared.command.Command.{Command}
 use Rattle.commands.specs.declared.effects.Effect.{Effect}
-use Rattle.commands.specs.declared.effects.Effect.the-variants.{Tell, Put, PutTwo}
+use Rattle.commands.specs.declared.effects.Effect.the-variants.{Tell, Put, PutTwo, Restore}
 use Rattle.commands.specs.Codes.{resultInfinite, directionMissing}
 use Rattle.commands.specs.Rows.{ModelRow, empty, point, direction}
 use Rattle.commands.specs.Fields.{Sources, sourcesOf}
-use Rattle.commands.specs.Results.{Result, Empties, Point, Aim, Aims, Number, Whole, Shows, directionOf}
+use Rattle.commands.specs.Results.{Result, Empties, Point, Aim, Aims, Number, Whole, Shows, Undoes, directionOf}
 use Rattle.commands.specs.Commands.{entryAt}
 use Rattle.commands.specs.Refusals.{first, late, refusalOf, lacksDirection, notFinite}
 use Rattle.commands.specs.Answers.{ModelAnswer, refused, shown, number, whole, answerOf}
 
--- row t is written, or rows t and t+1, or nothing but an answer
+-- row t is written, or rows t and t+1; the rows before the latest command that is remembered come back; or nothing but an answer
 pub data ModelEffect : Type 0 where
   Puts : ModelRow → ModelEffect
   PutsTwo : ModelRow → ModelRow → ModelEffect
+  Restores : ModelEffect
   Tells : ModelAnswer → ModelEffect
 
 -- the direction that there is: refusal 7 has refused the rest
@@ -37,14 +38,15 @@ effectOf (Aims v w) = PutsTwo (direction (directionIn (directionOf v))) (directi
 effectOf (Number x) = Tells (number x)
 effectOf (Whole n) = Tells (whole n)
 effectOf (Shows i r) = Tells (shown i r)
+effectOf Undoes = Restores
 
 -- the answer of a refusal, where there is one
 unfoldable pub unlessRefused : ℕ → ModelEffect → ModelEffect
 unlessRefused k e = cond (eqb k 0) e (Tells (refused k))
 
--- a command on the rows of its sources: refused, or what it works out
-unfoldable pub commandEffect : Command → ModelRow → ModelRow → ModelEffect
-commandEffect c a b = let s = sourcesOf c a b in unlessRefused (refusalOf c s) (effectOf (entryAt (c .number) .result s))
+-- a command on the rows of its sources, where something or nothing is remembered: refused, or what it works out
+unfoldable pub commandEffect : Command → ModelRow → ModelRow → Bool → ModelEffect
+commandEffect c a b remembers = let s = sourcesOf c a b in unlessRefused (refusalOf c remembers s) (effectOf (entryAt (c .number) .result s))
 
 -- ---- what functions inside the crate promise each other
 -- refusal k where its condition holds
@@ -64,3 +66,4 @@ unfoldable pub effectBy : Effect → ModelEffect
 effectBy (Tell x) = Tells (answerOf x)
 effectBy (Put k v) = Puts (record { kind = k; numbers = v })
 effectBy (PutTwo v w) = PutsTwo (direction v) (direction w)
+effectBy Restore = Restores

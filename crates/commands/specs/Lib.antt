@@ -10,4 +10,5 @@ pub mod Effects
 pub mod Model
 pub mod CommandSets
 pub mod Claim
+pub mod HistoryMeaning
 pub mod Corners

@@ -1,4 +1,5 @@
--- The refusals of a command (document 01, "Refused, and by whose doing"), each with its condition, in the order in which they are checked: "2, 3, 4, 5, 8, 7, 6".
+-- The refusals of a command (document 01, "Refused, and by whose doing"), each with its condition, in the order in which they are checked: "2, 3, 4, 5, 8, 7, 6",
+-- and 11 "checked after 3" (document 02, a).
 use Prim.Native.Nat.{ℕ}
 use mathlib.Core.Bool.{Bool, true, false, cond, not, _&&_, _||_}
 use mathlib.Core.List.{List, [], _∷_, _++_}
@@ -13,13 +14,13 @@ use Rattle.vector.specs.Projections.{otherLenSqRcp}
 use Rattle.vector.specs.Optics.{refractK}
 use Rattle.vector.specs.AssertLaws.{zeroLength}
 use Rattle.commands.specs.declared.command.Command.{Command}
-use Rattle.commands.specs.Codes.{last, pointKind, unknownCommand, rowOutside, unfitSource, valueOutside, resultInfinite, directionMissing, allReflected}
+use Rattle.commands.specs.Codes.{last, undo, pointKind, unknownCommand, rowOutside, unfitSource, valueOutside, resultInfinite, directionMissing, allReflected, historyEmpty}
 use Rattle.commands.specs.Rows.{ModelRow}
 use Rattle.commands.specs.Fields.{Sources}
-use Rattle.commands.specs.Results.{Result, Empties, Point, Aim, Aims, Number, Whole, Shows, directionOf}
+use Rattle.commands.specs.Results.{Result, Empties, Point, Aim, Aims, Number, Whole, Shows, Undoes, directionOf}
 use Rattle.commands.specs.Commands.{allows, entryAt}
 
--- "2, command above 32"
+-- "2, command above 32"; "refusal 2 begins above the highest command in use"
 unfoldable pub unknown : ℕ → Bool
 unknown n = ltb last n
 
@@ -28,6 +29,10 @@ unfoldable pub noRow : Command → Bool
 noRow c =
     let uses = entryAt (c .number) .uses in
     uses .t && ltb 63 (c .t) || uses .a && ltb 63 (c .a) || uses .b && ltb 63 (c .b) || eqb (c .number) 24 && eqb (c .t) 63
+
+-- "Command 33 with nothing remembered is refused by 11, checked after 3"
+unfoldable pub nothingRemembered : ℕ → Bool → Bool
+nothingRemembered n remembers = eqb n undo && not remembers
 
 -- "4, a source empty, or no direction in 22 to 24"
 unfoldable pub badSource : ℕ → ℕ → ℕ → Bool
@@ -71,6 +76,7 @@ lacksDirection (Point v) = false
 lacksDirection (Number x) = false
 lacksDirection (Whole n) = false
 lacksDirection (Shows i r) = false
+lacksDirection Undoes = false
 
 unfoldable pub noFactor : ModelRow → Bool
 noFactor b = eqb (b .kind) pointKind && not (finite (otherLenSqRcp (b .numbers)))
@@ -90,6 +96,7 @@ notFinite (Aim v) = false
 notFinite (Aims v w) = false
 notFinite (Whole n) = false
 notFinite (Shows i r) = false
+notFinite Undoes = false
 
 -- a refusal's number, and whether its condition holds
 pub record Refusal : Type 0 where
@@ -104,11 +111,12 @@ unfoldable pub first : List Refusal → ℕ
 first [] = 0
 first (r ∷ rest) = cond (r .holds) (r .number) (first rest)
 
--- "Checked in the order .. 2, 3, 4, 5, 8, 7, 6": those that the fields and the sources' kinds decide, then those that the work decides
-unfoldable pub early : Command → ℕ → ℕ → List Refusal
-early c kindA kindB =
+-- "Checked in the order .. 2, 3, 4, 5, 8, 7, 6": those that the fields, the history and the sources' kinds decide, then those that the work decides
+unfoldable pub early : Command → Bool → ℕ → ℕ → List Refusal
+early c remembers kindA kindB =
     refuses unknownCommand (unknown (c .number))
     ∷ refuses rowOutside (noRow c)
+    ∷ refuses historyEmpty (nothingRemembered (c .number) remembers)
     ∷ refuses unfitSource (badSource (c .number) kindA kindB)
     ∷ refuses valueOutside (badValue (c .number) (ofBits binary32 (c .u)) (ofBits binary32 (c .v)) (ofBits binary32 (c .w)))
     ∷ []
@@ -120,8 +128,8 @@ late n s =
     ∷ refuses resultInfinite (notFinite (entryAt n .result s))
     ∷ []
 
-unfoldable pub refusals : Command → Sources → List Refusal
-refusals c s = early c (s .a .kind) (s .b .kind) ++ late (c .number) s
+unfoldable pub refusals : Command → Bool → Sources → List Refusal
+refusals c remembers s = early c remembers (s .a .kind) (s .b .kind) ++ late (c .number) s
 
-unfoldable pub refusalOf : Command → Sources → ℕ
-refusalOf c s = first (refusals c s)
+unfoldable pub refusalOf : Command → Bool → Sources → ℕ
+refusalOf c remembers s = first (refusals c remembers s)

@@ -22,6 +22,8 @@ pub data Result : Type 0 where
   Number : Float → Result
   Whole : ℕ → Result
   Shows : ℕ → ModelRow → Result
+  -- the rows before the latest command that is remembered come back
+  Undoes : Result
 
 -- ""Direction of" a vector means: refusal 7 if its `length_squared` is below 2^-126 or not finite, else `try_normalize` of it"
 unfoldable pub directionOf : Vec3 → Normalized

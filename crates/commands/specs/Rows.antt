@@ -1,7 +1,7 @@
 -- The rows of the reference model (document 01, "The plain sheet": "64 rows, 0 to 63, each empty (kind 0, its numbers +0), a point (1) or a direction (2)
--- with three numbers. Fresh: all empty"), and its state.
+-- with three numbers. Fresh: all empty"), and its state, which remembers (document 02, a).
 use Prim.Native.Nat.{ℕ}
-use mathlib.Core.List.{List}
+use mathlib.Core.List.{List, []}
 use lib.ListN.{getD, set, replicate}
 use Rattle.vector.specs.declared.vec3.Vec3.{Vec3}
 use Rattle.vector.specs.Vectors.{ZERO}
@@ -29,12 +29,19 @@ rowAt rows i = getD rows i empty
 unfoldable pub withRow : List ModelRow → ℕ → ModelRow → List ModelRow
 withRow rows i r = set rows i r
 
--- all that a sheet holds
-pub record State : Type 0 where
+-- a command that can be taken back: its target, and the 64 rows before it
+pub record Snapshot : Type 0 where
+  pub t : ℕ
   pub rows : List ModelRow
 
+-- all that a sheet holds: its rows, and what it remembers, the latest first
+pub record State : Type 0 where
+  pub rows : List ModelRow
+  pub history : List Snapshot
+
+-- "the plain sheet .. remembers for itself, a fresh one nothing"
 unfoldable pub fresh : State
-fresh = record { rows = replicate rowCount empty }
+fresh = record { rows = replicate rowCount empty; history = [] }
 
 -- the program's row, as the model's
 abbrev pub rowOf : Row → ModelRow

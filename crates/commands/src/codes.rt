@@ -1,7 +1,7 @@
-// The numbers of document 01 that have a meaning of their own (specs/Codes).
+// The numbers of documents 01 and 02 that have a meaning of their own (specs/Codes).
 
 // The highest command in use.
-pub const LAST: u32 = 32;
+pub const LAST: u32 = 33;
 
 // Kinds of rows and answers.
 pub const EMPTY: u32 = 0;
@@ -32,3 +32,5 @@ pub const DIRECTION_MISSING: u32 = 7;
 pub const ALL_REFLECTED: u32 = 8;
 
 pub const LENT_TOO_SHORT: u32 = 9;
+
+pub const HISTORY_EMPTY: u32 = 11;

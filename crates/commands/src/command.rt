@@ -1,6 +1,7 @@
 // A command, as it is given, and its answer.
 ghost use mathlib.Core.Path.{_≡_};
-ghost use lib.ListN.{getD, drop};
+ghost use Prim.Native.Nat.{_+_, _≤_};
+ghost use lib.ListN.{length, getD, drop};
 ghost use Rattle.commands.specs.Fields.{commandOf};
 use vector::vec3::Vec3;
 
@@ -25,6 +26,34 @@ pub enum Answer {
 
 // The command that the seven numbers from `at` on give; where there are fewer, the missing ones count as 0.
 pub fn command_at(numbers: &[u32], at: usize) -> Command
+    ensures { λ r. ⌜ r ≡ commandOf (drop at (now (numbers .entry))) ⌝ }
+{
+    if numbers.len() < 7 {
+        return fewer_at(numbers, at);
+    }
+    if numbers.len() - 7 < at {
+        return fewer_at(numbers, at);
+    }
+    seven_at(numbers, at)
+}
+
+// All seven are there: one test for them in the place of one for each.
+fn seven_at(numbers: &[u32], at: usize) -> Command
+    requires { ⌜ at + 7 ≤ length (now numbers) ⌝ }
+    ensures { λ r. ⌜ r ≡ commandOf (drop at (now (numbers .entry))) ⌝ }
+{
+    Command {
+        number: numbers[at],
+        t: numbers[at + 1],
+        a: numbers[at + 2],
+        b: numbers[at + 3],
+        u: numbers[at + 4],
+        v: numbers[at + 5],
+        w: numbers[at + 6],
+    }
+}
+
+fn fewer_at(numbers: &[u32], at: usize) -> Command
     ensures { λ r. ⌜ r ≡ commandOf (drop at (now (numbers .entry))) ⌝ }
 {
     Command {

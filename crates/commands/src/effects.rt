@@ -1,9 +1,10 @@
-// What a command comes to that its fields and its sources' kinds have not refused: it sees two rows and no sheet.
+// What a command comes to: it sees two rows and no sheet.
 mod directions;
 mod projections;
 mod results;
 
 ghost use mathlib.Core.Path.{_≡_};
+ghost use mathlib.Core.Bool.{true};
 ghost use lib.Ieee.{binary32, ofBits};
 ghost use Rattle.vector.specs.Vectors.{vec};
 ghost use Rattle.commands.specs.Rows.{rowOf};
@@ -28,11 +29,12 @@ use crate::row::Row;
 use scalar::bits::from_bits;
 use vector::vec3::Vec3;
 
-// An answer to tell, or what to write at the target: one row, or two directions at t and t + 1.
+// An answer to tell; what to write at the target, one row, or two directions at t and t + 1; or the rows before the latest command that is remembered.
 pub enum Effect {
     Tell(Answer),
     Put { kind: u32, v: Vec3 },
     PutTwo { v: Vec3, w: Vec3 },
+    Restore,
 }
 
 fn empties() -> Effect
@@ -54,6 +56,12 @@ fn shows(i: u32, row: Row) -> Effect
         kind: row.kind,
         v: v,
     })
+}
+
+fn undoes() -> Effect
+    ensures { λ r. ⌜ effectBy r ≡ settled Results.Undoes ⌝ }
+{
+    Effect::Restore
 }
 
 // The values u, v and w as a vector.
@@ -106,14 +114,15 @@ pub(crate) fn late_effect(c: Command, a: Row, b: Row) -> Effect
         30 => whole(a.v.max_position()),
         31 => whole(a.v.cmple(b.v).bitmask()),
         32 => shows(c.a, a),
+        33 => undoes(),
         // 2 has refused the numbers that are not in the table
         _ => empties(),
     }
 }
 
-// What a command comes to, from its two source rows: it sees no sheet.
+// What a command comes to, from its two source rows, where there is a command to take back: whether there is one the caller sees, and 33 alone depends on it.
 pub fn effect_of(c: Command, a: Row, b: Row) -> Effect
-    ensures { λ r. ⌜ effectBy r ≡ commandEffect c (rowOf a) (rowOf b) ⌝ }
+    ensures { λ r. ⌜ effectBy r ≡ commandEffect c (rowOf a) (rowOf b) true ⌝ }
 {
     let k = refusal(c, a.kind, b.kind);
     if k == 0 {

@@ -1,6 +1,6 @@
-// The refusals that are known before a command is worked out: 2, 3, 4 and 5, from its fields and the kinds of its sources.
+// The refusals that are known before a command is worked out: 2, 3, 4 and 5, from its fields and the kinds of its sources. 11 is where the history is (crate sheet).
 ghost use mathlib.Core.Path.{_≡_};
-ghost use mathlib.Core.Bool.{_&&_, not};
+ghost use mathlib.Core.Bool.{true, _&&_, not};
 ghost use lib.Dec.{eqb, ltb};
 ghost use lib.Ieee as Ieee;
 ghost use lib.Ieee.{binary32};
@@ -199,9 +199,9 @@ fn bad_value(n: u32, u: u32, v: u32, w: u32) -> bool
     out_of_range(n, u)
 }
 
-// The number of the first of refusals 2, 3, 4 and 5 that holds, from the kinds of the sources; 0 where none does.
+// The number of the first of refusals 2, 3, 4 and 5 that holds, from the kinds of the sources, where there is a command to take back; 0 where none does.
 pub(crate) fn refusal(c: Command, kind_a: u32, kind_b: u32) -> u32
-    ensures { λ r. ⌜ r ≡ first (early c «kind_a» «kind_b») ⌝ }
+    ensures { λ r. ⌜ r ≡ first (early c true «kind_a» «kind_b») ⌝ }
 {
     if LAST < c.number {
         return UNKNOWN_COMMAND;

@@ -2,7 +2,7 @@
 use Prim.Native.Nat.{ℕ, zero, suc, _≤_}
 use native.Mathlib.Omega.{arith}
 use mathlib.Core.Path.{_≡_, refl}
-use mathlib.Core.Bool.{Bool, true, false, not, _&&_, _||_}
+use mathlib.Core.Bool.{Bool, true, false, not, _||_}
 use lib.Dec.{T, eqb}
 use lib.Ieee.Scale.{finite}
 use borrow.Author.Tests.{eqb-true, eqb-false, eq-eqb, not-false}
@@ -68,11 +68,11 @@ rows-asserted =
     and (λ s h. law-s .any-orthonormal-pair _ (direction-there (s .a) (h .row-a) (h .fit-a refl)))
     and free and free and free
     and (λ s h. law-s .angle-between _ _ (h .row-a .numbers-finite) (h .row-b .numbers-finite) (denied _ (h .lengths refl .0)) (denied _ (h .lengths refl .1)))
-    and free and free and free and free
+    and free and free and free and free and free
     and tt
 
-pub asserted : (c : Command) (a b : ModelRow) → SoundRow a → SoundRow b → Done c (sourcesOf c a b) → T (entryAt (c .number) .asserts (sourcesOf c a b))
+pub asserted : (c : Command) (a b : ModelRow) (m : Bool) → SoundRow a → SoundRow b → Done c m (sourcesOf c a b) → T (entryAt (c .number) .asserts (sourcesOf c a b))
 unfolding table entryAt
-asserted c a b p q d =
+asserted c a b m p q d =
     let l = known-number (c .number) (d .known) in
-    each-at Asserted table _ rows-asserted (c .number) (omega arith) (sourcesOf c a b) (held c a b p q d)
+    each-at Asserted table _ rows-asserted (c .number) (omega arith) (sourcesOf c a b) (held c a b m p q d)

@@ -1,15 +1,15 @@
--- What a command that is done comes to: sound rows, or an answer that is no refusal. Assumes nothing.
+-- What a command that is done comes to: sound rows, those that it brings back, or an answer that is no refusal. Assumes nothing.
 use mathlib.Core.Path.{_≡_, refl}
-use mathlib.Core.Bool.{false}
+use mathlib.Core.Bool.{Bool, false}
 use Rattle.vector.specs.declared.vec3.Vec3.{Vec3}
 use Rattle.vector.specs.ExactVectors.{F32Vec}
 use Rattle.commands.specs.declared.command.Command.{Command}
 use Rattle.commands.specs.Rows.{ModelRow, direction}
 use Rattle.commands.specs.Fields.{sourcesOf}
-use Rattle.commands.specs.Results.{Result, Empties, Point, Aim, Aims, Number, Whole, Shows, directionOf}
+use Rattle.commands.specs.Results.{Result, Empties, Point, Aim, Aims, Number, Whole, Shows, Undoes, directionOf}
 use Rattle.commands.specs.Commands.{entryAt}
 use Rattle.commands.specs.Refusals.{isNothing, lacksDirection, notFinite}
-use Rattle.commands.specs.Effects.{ModelEffect, Puts, PutsTwo, Tells, directionIn, effectOf}
+use Rattle.commands.specs.Effects.{ModelEffect, Puts, PutsTwo, Restores, Tells, directionIn, effectOf}
 use Rattle.commands.specs.Claim.{SoundRow}
 use Rattle.commands.proofs.ConditionLaws.{Done, known-number, none-of-two}
 use Rattle.commands.proofs.table.EntryLaws.{FitResult}
@@ -22,6 +22,7 @@ use Rattle.commands.proofs.claim.RowLaws.{empty-row, point-row, directi
 abbrev pub SoundEffect : ModelEffect → Type 0
 SoundEffect (Puts r) = SoundRow r
 SoundEffect (PutsTwo r s) = SoundRow r × SoundRow s
+SoundEffect Restores = Unit {0}
 SoundEffect (Tells x) = x .refusal ≡ 0
 
 direction-written : (v : Vec3) → F32Vec v → isNothing (directionOf v) ≡ false → SoundRow (direction (directionIn (directionOf v)))
@@ -38,9 +39,10 @@ result-sound (Aims v w) f h k =
 result-sound (Number x) f h k = refl
 result-sound (Whole n) f h k = refl
 result-sound (Shows i r) f h k = refl
+result-sound Undoes f h k = tt
 
 pub effect-sound :
-    (c : Command) (a b : ModelRow) → SoundRow a → SoundRow b → Done c (sourcesOf c a b) → SoundEffect (effectOf (entryAt (c .number) .result (sourcesOf c a b)))
-effect-sound c a b p q d =
+    (c : Command) (a b : ModelRow) (m : Bool) → SoundRow a → SoundRow b → Done c m (sourcesOf c a b) → SoundEffect (effectOf (entryAt (c .number) .result (sourcesOf c a b)))
+effect-sound c a b m p q d =
     let fits = entry-lawful (c .number) (known-number (c .number) (d .known)) .fits (sourcesOf c a b) (sources-fit c a b (p .values) (q .values)) in
     result-sound _ fits (directed (c .number) (sourcesOf c a b) (d .directed) .aims) (d .finite-result)

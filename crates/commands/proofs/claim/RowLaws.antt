@@ -1,20 +1,20 @@
--- Rows that are written and read again, and sheets whose rows are all as specs/Claim promises. Assumes nothing.
-use Prim.Native.Nat.{ℕ, zero, suc, _<_}
+-- Rows that are written and read again, and states whose rows, those remembered too, are all as specs/Claim promises. Assumes nothing.
+use Prim.Native.Nat.{ℕ, zero, suc, _≤_, _<_}
 use native.Mathlib.Omega.{arith}
 use mathlib.Core.Path.{_≡_, refl, subst, sym, _∙_}
 use mathlib.Core.List.{List, [], _∷_}
 use lib.Dec.{lit≤}
-use lib.ListN.{length, getD, set, replicate, length-set, length-replicate}
+use lib.ListN.{length, getD, set, take, replicate, length-set, length-take, length-replicate}
 use lib.Seq.{getD-set-same, getD-set-other}
 use lib.Ieee.{ofBits}
 use Rattle.vector.specs.declared.vec3.Vec3.{Vec3}
 use Rattle.vector.specs.Vectors.{ZERO}
 use Rattle.vector.specs.ExactVectors.{F32Vec, FiniteVec, Direction}
 use Rattle.vector.proofs.values.VectorFits.{zero-vector}
-use Rattle.commands.specs.Codes.{rowCount}
-use Rattle.commands.specs.Rows.{ModelRow, State, empty, point, direction, fresh, rowAt, withRow}
-use Rattle.commands.specs.Model.{withRows}
-use Rattle.commands.specs.Claim.{SoundRow, Sound}
+use Rattle.commands.specs.Codes.{rowCount, historyDepth}
+use Rattle.commands.specs.Rows.{ModelRow, Snapshot, State, empty, point, direction, fresh, rowAt, withRow}
+use Rattle.commands.specs.Model.{remembering, withRows, restored}
+use Rattle.commands.specs.Claim.{SoundRow, SoundRows, SoundHistory, Sound}
 
 -- ---- the rows that commands write
 zero-finite : FiniteVec ZERO
@@ -56,11 +56,38 @@ all-replicate zero i a = refl
 all-replicate (suc n) zero a = refl
 all-replicate (suc n) (suc i) a = all-replicate n i a
 
--- ---- sheets
+-- ---- all rows
+pub with-row-sound : (rows : List ModelRow) (i : ℕ) (r : ModelRow) → SoundRows rows → SoundRow r → SoundRows (withRow rows i r)
+unfolding rowAt withRow
+with-row-sound rows i r h p = record { count = length-set rows i r ∙ h .count; each-row = all-set SoundRow rows i r empty (h .each-row) p }
+
 pub fresh-sound : Sound fresh
 unfolding fresh rowAt
-fresh-sound = record { count = length-replicate rowCount empty; each-row = λ i. subst SoundRow (sym (all-replicate rowCount i empty)) empty-row }
+fresh-sound =
+    record {
+      rows = record { count = length-replicate rowCount empty; each-row = λ i. subst SoundRow (sym (all-replicate rowCount i empty)) empty-row };
+      history = tt;
+      depth = lit≤ tt;
+    }
 
-pub with-row-sound : (s : State) (i : ℕ) (r : ModelRow) → Sound s → SoundRow r → Sound (withRows s (withRow (s .rows) i r))
-unfolding rowAt withRow
-with-row-sound s i r h p = record { count = length-set (s .rows) i r ∙ h .count; each-row = all-set SoundRow (s .rows) i r empty (h .each-row) p }
+-- ---- what is remembered
+take-sound : (n : ℕ) (l : List Snapshot) → SoundHistory l → SoundHistory (take n l)
+take-sound zero l h = tt
+take-sound (suc n) [] h = tt
+take-sound (suc n) (p ∷ l) h = (h .0, take-sound n l (h .1))
+
+-- new rows by a command with target t, which is remembered
+pub with-rows-sound : (s : State) (t : ℕ) (rows : List ModelRow) → Sound s → SoundRows rows → Sound (withRows s t rows)
+unfolding remembering
+with-rows-sound s t rows h p =
+    record {
+      rows = p;
+      history = take-sound historyDepth (record { t = t; rows = s .rows } ∷ s .history) (h .rows, h .history);
+      depth = simp length-take (omega arith);
+    }
+
+-- the rows before the latest command that is remembered
+pub restored-sound : (s : State) (l : List Snapshot) → Sound s → SoundHistory l → length l ≤ historyDepth → Sound (restored s l .state)
+unfolding restored
+restored-sound s [] h p d = h
+restored-sound s (q ∷ l) h p d = record { rows = p .0; history = p .1; depth = omega arith }

@@ -2,7 +2,7 @@
 -- Assumes nothing.
 use Prim.Native.Nat.{ℕ}
 use mathlib.Core.Path.{_≡_}
-use mathlib.Core.Bool.{true, false, _||_}
+use mathlib.Core.Bool.{Bool, true, false, _||_}
 use lib.Dec.{T, eqb}
 use lib.Ieee.{le}
 use borrow.Author.Tests.{eqb-true, not-true, eqb-false}
@@ -27,8 +27,8 @@ pub record Held (n : ℕ) (e : Entry) (s : Sources) : Type 0 where
   pub factor : (eqb n 11 || eqb n 12) ≡ true → noFactor (s .b) ≡ false
   pub lengths : eqb n 28 ≡ true → (zeroLength (s .a .numbers) ≡ false) × (zeroLength (s .b .numbers) ≡ false)
 
-pub held : (c : Command) (a b : ModelRow) → SoundRow a → SoundRow b → Done c (sourcesOf c a b) → Held (c .number) (entryAt (c .number)) (sourcesOf c a b)
-held c a b p q d =
+pub held : (c : Command) (a b : ModelRow) (m : Bool) → SoundRow a → SoundRow b → Done c m (sourcesOf c a b) → Held (c .number) (entryAt (c .number)) (sourcesOf c a b)
+held c a b m p q d =
     let kinds = fit-kinds (c .number) (a .kind) (b .kind) (d .sources-fit) in
     let seven = directed (c .number) (sourcesOf c a b) (d .directed) in
     record {

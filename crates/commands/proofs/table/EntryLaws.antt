@@ -7,21 +7,23 @@ use lib.Ieee.{Float}
 use Rattle.scalar.proofs.floats.FitsLaws.{Fits32}
 use Rattle.vector.specs.declared.vec3.Vec3.{Vec3}
 use Rattle.vector.specs.ExactVectors.{F32Vec}
+use Rattle.commands.specs.Codes.{undo}
 use Rattle.commands.specs.Rows.{ModelRow}
 use Rattle.commands.specs.Fields.{Uses, Sources, usesTA, usesTAB, usesTABU, usesA, usesAB}
-use Rattle.commands.specs.Results.{Result, Empties, Point, Aim, Aims, Number, Whole, Shows}
+use Rattle.commands.specs.Results.{Result, Empties, Point, Aim, Aims, Number, Whole, Shows, Undoes}
 use Rattle.commands.specs.Commands.{Kinds, Entry, asserting, ofA, ofAB, ofABU}
 
 -- ---- one row
--- a result writes only where t is used, and two rows only in 24
+-- a result writes exactly where t is used, two rows only in 24, and 33 alone takes back
 abbrev pub Targets : ℕ → Bool → Result → Type 0
 Targets n t Empties = t ≡ true
 Targets n t (Point v) = t ≡ true
 Targets n t (Aim v) = t ≡ true
 Targets n t (Aims v w) = (t ≡ true) × (n ≡ 24)
-Targets n t (Number x) = Unit {0}
-Targets n t (Whole k) = Unit {0}
-Targets n t (Shows i r) = Unit {0}
+Targets n t (Number x) = t ≡ false
+Targets n t (Whole k) = t ≡ false
+Targets n t (Shows i r) = t ≡ false
+Targets n t Undoes = (t ≡ false) × (n ≡ undo)
 
 -- a result does not depend on a row that is not used
 abbrev pub Unread : Bool → (Sources → ModelRow → Sources) → (Sources → Result) → Type 0
@@ -50,6 +52,7 @@ FitResult (Aims v w) = F32Vec v × F32Vec w
 FitResult (Number x) = Unit {0}
 FitResult (Whole k) = Unit {0}
 FitResult (Shows i r) = Unit {0}
+FitResult Undoes = Unit {0}
 
 pub record Lawful (n : ℕ) (e : Entry) : Type 0 where
   pub targets : (s : Sources) → Targets n (e .uses .t) (e .result s)
@@ -77,13 +80,13 @@ module _ {n : ℕ} {k : Kinds} {x : Sources → Bool} where
 
   -- a number or a whole number
   pub numberA : (f : Vec3 → Float) → Lawful n (asserting usesA k (ofA Number f) x)
-  numberA f = lawful (λ s. tt) tt (λ s r. refl) (λ s v. tt)
+  numberA f = lawful (λ s. refl) tt (λ s r. refl) (λ s v. tt)
 
   pub numberAB : (f : Vec3 → Vec3 → Float) → Lawful n (asserting usesAB k (ofAB Number f) x)
-  numberAB f = lawful (λ s. tt) tt tt (λ s v. tt)
+  numberAB f = lawful (λ s. refl) tt tt (λ s v. tt)
 
   pub wholeA : (f : Vec3 → ℕ) → Lawful n (asserting usesA k (ofA Whole f) x)
-  wholeA f = lawful (λ s. tt) tt (λ s r. refl) (λ s v. tt)
+  wholeA f = lawful (λ s. refl) tt (λ s r. refl) (λ s v. tt)
 
   pub wholeAB : (f : Vec3 → Vec3 → ℕ) → Lawful n (asserting usesAB k (ofAB Whole f) x)
-  wholeAB f = lawful (λ s. tt) tt tt (λ s v. tt)
+  wholeAB f = lawful (λ s. refl) tt tt (λ s v. tt)

@@ -74,7 +74,8 @@ rows-lawful =
     and wholeA minPosition
     and wholeA maxPosition
     and wholeAB (λ (a b : Vec3). bitmask (cmple a b))
-    and lawful (λ s. tt) tt (λ s r. refl) (λ s v. tt)
+    and lawful (λ s. refl) tt (λ s r. refl) (λ s v. tt)
+    and lawful (λ s. (refl, refl)) (λ s r. refl) (λ s r. refl) (λ s v. tt)
     and tt
 
 -- so of the row of each command that there is

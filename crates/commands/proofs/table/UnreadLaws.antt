@@ -17,11 +17,11 @@ use Rattle.commands.proofs.table.EntryLaws.{Unread, withA, withB}
 use Rattle.commands.proofs.table.TableLaws.{entry-lawful}
 
 -- ---- a command that 2 or 3 refuses
-refused-early : (c : Command) (a b a′ b′ : ModelRow) → (unknown (c .number) || noRow c) ≡ true → commandEffect c a b ≡ commandEffect c a′ b′
+refused-early : (c : Command) (a b a′ b′ : ModelRow) (m : Bool) → (unknown (c .number) || noRow c) ≡ true → commandEffect c a b m ≡ commandEffect c a′ b′ m
 unfolding commandEffect refusalOf refusals early first unlessRefused
-refused-early c a b a′ b′ h = go (unknown (c .number)) (noRow c) refl refl h
+refused-early c a b a′ b′ m h = go (unknown (c .number)) (noRow c) refl refl h
   where
-    go : (p q : Bool) → unknown (c .number) ≡ p → noRow c ≡ q → (p || q) ≡ true → commandEffect c a b ≡ commandEffect c a′ b′
+    go : (p q : Bool) → unknown (c .number) ≡ p → noRow c ≡ q → (p || q) ≡ true → commandEffect c a b m ≡ commandEffect c a′ b′ m
     go true q e f h = rw e refl
     go false true e f h = rw (e, f) refl
     go false false e f h = absurd (false≢true h)
@@ -66,17 +66,17 @@ unfolding table entryAt
 reads-b n u =
     let b : Uses → Bool = λ f. f .b in (other b 11 n refl u, other b 12 n refl u, other b 23 n refl u, other b 28 n refl u)
 
-unused-a : (c : Command) (a a′ b : ModelRow) → c .number ≤ last → entryAt (c .number) .uses .a ≡ false → commandEffect c a b ≡ commandEffect c a′ b
+unused-a : (c : Command) (a a′ b : ModelRow) (m : Bool) → c .number ≤ last → entryAt (c .number) .uses .a ≡ false → commandEffect c a b m ≡ commandEffect c a′ b m
 unfolding commandEffect refusalOf refusals early late badSource noRefraction noDirection
-unused-a c a a′ b l u =
+unused-a c a a′ b m l u =
     let n = c .number in
     let same = same-result (entryAt n .uses .a) withA (entryAt n .result) u (entry-lawful n l .unread-a) (sourcesOf c a b) a′ in
     let not = reads-a n u in
     rw (same, u, not .0, not .1) refl
 
-unused-b : (c : Command) (a b b′ : ModelRow) → c .number ≤ last → entryAt (c .number) .uses .b ≡ false → commandEffect c a b ≡ commandEffect c a b′
+unused-b : (c : Command) (a b b′ : ModelRow) (m : Bool) → c .number ≤ last → entryAt (c .number) .uses .b ≡ false → commandEffect c a b m ≡ commandEffect c a b′ m
 unfolding commandEffect refusalOf refusals early late badSource noRefraction noDirection
-unused-b c a b b′ l u =
+unused-b c a b b′ m l u =
     let n = c .number in
     let same = same-result (entryAt n .uses .b) withB (entryAt n .result) u (entry-lawful n l .unread-b) (sourcesOf c a b) b′ in
     let not = reads-b n u in
@@ -84,18 +84,18 @@ unused-b c a b b′ l u =
 
 -- ---- above 63: refused by 2, refused by 3, or not used
 unread :
-    (c : Command) (a b a′ b′ : ModelRow) (used : Bool) → (used ≡ true → noRow c ≡ true)
-    → (c .number ≤ last → used ≡ false → commandEffect c a b ≡ commandEffect c a′ b′)
-    → commandEffect c a b ≡ commandEffect c a′ b′
-unread c a b a′ b′ used out unused = go (unknown (c .number)) refl used refl
+    (c : Command) (a b a′ b′ : ModelRow) (m used : Bool) → (used ≡ true → noRow c ≡ true)
+    → (c .number ≤ last → used ≡ false → commandEffect c a b m ≡ commandEffect c a′ b′ m)
+    → commandEffect c a b m ≡ commandEffect c a′ b′ m
+unread c a b a′ b′ m used out unused = go (unknown (c .number)) refl used refl
   where
-    go : (p : Bool) → unknown (c .number) ≡ p → (q : Bool) → used ≡ q → commandEffect c a b ≡ commandEffect c a′ b′
-    go true e q f = refused-early c a b a′ b′ (rw e refl)
-    go false e true f = refused-early c a b a′ b′ (rw (e, out f) refl)
+    go : (p : Bool) → unknown (c .number) ≡ p → (q : Bool) → used ≡ q → commandEffect c a b m ≡ commandEffect c a′ b′ m
+    go true e q f = refused-early c a b a′ b′ m (rw e refl)
+    go false e true f = refused-early c a b a′ b′ m (rw (e, out f) refl)
     go false e false f = unused (known-number (c .number) e) f
 
-pub unread-a : (c : Command) (a a′ b : ModelRow) → 63 < c .a → commandEffect c a b ≡ commandEffect c a′ b
-unread-a c a a′ b l = unread c a b a′ b (entryAt (c .number) .uses .a) (used-a c l) (unused-a c a a′ b)
+pub unread-a : (c : Command) (a a′ b : ModelRow) (m : Bool) → 63 < c .a → commandEffect c a b m ≡ commandEffect c a′ b m
+unread-a c a a′ b m l = unread c a b a′ b m (entryAt (c .number) .uses .a) (used-a c l) (unused-a c a a′ b m)
 
-pub unread-b : (c : Command) (a b b′ : ModelRow) → 63 < c .b → commandEffect c a b ≡ commandEffect c a b′
-unread-b c a b b′ l = unread c a b a b′ (entryAt (c .number) .uses .b) (used-b c l) (unused-b c a b b′)
+pub unread-b : (c : Command) (a b b′ : ModelRow) (m : Bool) → 63 < c .b → commandEffect c a b m ≡ commandEffect c a b′ m
+unread-b c a b b′ m l = unread c a b a b′ m (entryAt (c .number) .uses .b) (used-b c l) (unused-b c a b b′ m)

@@ -84,6 +84,7 @@ late-effect-spec =
     (λ c κs. search needs) (λ c κs. search needs) (λ c κs. search needs)
     (λ c κs. search needs)
     (λ c κs. search needs)
+    (λ c κs. search needs)
     -- what each arm returns
     (λ c. arm _ _ 0 (c .before .match .keys1) (c .empties .ensures))
     (λ c. arm _ _ 1 (c .before .before .match .keys2) (c .point .ensures ∙ ap points (c .before .values .ensures)))
@@ -118,4 +119,5 @@ late-effect-spec =
     (λ c. arm _ _ 30 (c .before .before .match .keys31) (c .whole2 .ensures ∙ ap wholes (c .before .max-position .ensures)))
     (λ c. arm _ _ 31 (c .before .before .before .match .keys32) (c .whole3 .ensures ∙ ap wholes (c .before .bitmask .ensures ∙ ap bitmask (c .before .before .cmple .ensures))))
     (λ c. arm _ _ 32 (c .before .match .keys33) (c .shows .ensures))
+    (λ c. arm _ _ 33 (c .before .match .keys34) (c .undoes .ensures))
     (λ c. past-table _ _ (c .before .match .rest) (c .empties2 .ensures)))

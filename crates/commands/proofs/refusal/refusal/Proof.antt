@@ -4,6 +4,7 @@ use mathlib.Core.Bool.{false}
 use borrow.Author.Needs.{needs}
 use borrow.Author.Tests.{le-ltb, lt-ltb}
 use Rattle.commands.specs.Refusals.{unknown, noRow, badSource, first, early}
+use Rattle.commands.proofs.ConditionLaws.{some-remembered}
 use Rattle.commands.proofs.refusal.refusal.Statement.{statement}
 use Rattle.commands.proofs.refusal.refusal.Tie as tie
 
@@ -36,7 +37,7 @@ refusal-spec =
     (λ c κs. search needs)
     (λ c. simp (c .if2 .taken, ← c .before .no-row .ensures, known (c .before .before)))
     (λ c κs. search needs)
-    (λ c. let p : tie.Else2 = c .before .before in simp (c .if3 .taken, ← c .before .bad-source .ensures, within p, known (one p)))
+    (λ c. let p : tie.Else2 = c .before .before in simp (c .if3 .taken, ← c .before .bad-source .ensures, some-remembered, within p, known (one p)))
     (λ c κs. search needs)
-    (λ c. let p : tie.Else3 = c .before .before in simp (c .if4 .taken, ← c .before .bad-value .ensures, fit p, within (two p), known (one (two p))))
-    (λ c. let p : tie.Else3 = c .before .before in simp (c .if4 .left, ← c .before .bad-value .ensures, fit p, within (two p), known (one (two p)))))
+    (λ c. let p : tie.Else3 = c .before .before in simp (c .if4 .taken, ← c .before .bad-value .ensures, fit p, some-remembered, within (two p), known (one (two p))))
+    (λ c. let p : tie.Else3 = c .before .before in simp (c .if4 .left, ← c .before .bad-value .ensures, fit p, some-remembered, within (two p), known (one (two p)))))
