@@ -7,7 +7,7 @@ use borrow.Author.Tests.{lt-ltb, le-ltb}
 use lib.ListN.{length, drop, replicate}
 use Rattle.commands.specs.Codes.{lentTooShort}
 use Rattle.sheet.specs.Words.{stateWords, modelOf, freshWords}
-use Rattle.sheet.proofs.WordLaws.{zeros-fresh}
+use Rattle.sheet.proofs.words.WordLaws.{zeros-fresh}
 use Rattle.capi.specs.Fresh.{Freshened, freshened, freshOf, FreshMeaning}
 
 pub fresh-short : (w : List ℕ) → length w < stateWords → freshened w lentTooShort ≡ freshOf w

@@ -8,16 +8,22 @@ use borrow.Author.Tests.{lt-ltb, le-ltb}
 use lib.ListN.{length, drop}
 use Rattle.commands.specs.declared.command.Command.{Command}
 use Rattle.commands.specs.Codes.{lentTooShort}
-use Rattle.commands.specs.Rows.{State, rowAt, withRow}
+use Rattle.commands.specs.Rows.{ModelRow, State, rowAt}
 use Rattle.commands.specs.Answers.{refused}
-use Rattle.commands.specs.Effects.{ModelEffect, Puts, PutsTwo, Tells}
-use Rattle.commands.specs.Model.{Stepped, stepped, applied, effectOn, stepOf, Ran, runFrom}
+use Rattle.commands.specs.Effects.{ModelEffect, Puts, PutsTwo, Restores, Tells}
+use Rattle.commands.specs.Model.{Stepped, stepped, applied, isSome, effectOn, stepOf, Ran, runFrom}
 use Rattle.commands.specs.Claim.{Claim}
 use Rattle.commands.proofs.ClaimLaws.{model-claim}
-use Rattle.sheet.specs.Words.{stateWords, modelOf, putRow, wordsAfter, lentStep, lentRun}
-use Rattle.commands.proofs.CommandLaws.{InRange, FitEffect, target-in-range, effect-fits}
+use Rattle.sheet.specs.Rows.{putRow}
+use Rattle.sheet.specs.History.{remembered}
+use Rattle.sheet.specs.Words.{stateWords, modelOf, wordsAfter, lentStep, lentRun}
+use Rattle.commands.proofs.CommandLaws.{InRange, Remembered, FitEffect, target-in-range, restores-remembered, effect-fits}
 use Rattle.sheet.proofs.RunByLaws.{steppedAs, ranAs, runBy-keeps, runBy-related}
-use Rattle.sheet.proofs.WordLaws.{row-fits, row-written, length-put, behind-kept}
+use Rattle.sheet.proofs.words.WordLaws.{row-fits}
+use Rattle.sheet.proofs.words.PutLaws.{length-put, behind-put}
+use Rattle.sheet.proofs.ring.RememberLaws.{length-remembered, behind-remembered}
+use Rattle.sheet.proofs.ring.HistoryLaws.{one-put, two-put}
+use Rattle.sheet.proofs.ring.TakeBackLaws.{length-taken, behind-taken, taken-back}
 
 -- ---- one command
 -- by its effect, where the words are enough, and not at all where they are not
@@ -34,33 +40,46 @@ unfolding lentStep
 lent-short w c l = simp (lt-ltb (length w) stateWords l)
 
 module _ (w : List ℕ) (t : ℕ) where
-  effect-lent : (e : ModelEffect) → stateWords ≤ length w → InRange t e → FitEffect e → modelOf (wordsAfter w t e) ≡ applied (modelOf w) t e .state
+  effect-lent :
+      (e : ModelEffect) → stateWords ≤ length w → InRange t e → Remembered (isSome (modelOf w .history)) e → FitEffect e
+      → modelOf (wordsAfter w t e) ≡ applied (modelOf w) t e .state
   unfolding wordsAfter applied
-  effect-lent (Puts r) l h f = row-written w t r h l f
-  effect-lent (PutsTwo p q) l h f =
-      row-written (putRow w t p) (t + 1) q h (omega (arith, length-put w t p, l)) (f .1)
-      ∙ ap (λ (s : State). record { rows = withRow (s .rows) (t + 1) q }) (row-written w t p (omega (arith, h)) l (f .0))
-  effect-lent (Tells x) l h f = refl
+  effect-lent (Puts r) l h m f = one-put w t l r h f
+  effect-lent (PutsTwo p q) l h m f = two-put w t l p q h (f .0) (f .1)
+  effect-lent Restores l h m f = ap (λ (o : Stepped State). o .state) (taken-back w l m)
+  effect-lent (Tells x) l h m f = refl
 
   length-effect : (e : ModelEffect) → length (wordsAfter w t e) ≡ length w
   unfolding wordsAfter
-  length-effect (Puts r) = length-put w t r
-  length-effect (PutsTwo p q) = length-put (putRow w t p) (t + 1) q ∙ length-put w t p
+  length-effect (Puts r) = length-put (remembered w t 1) t r ∙ length-remembered w t 1
+  length-effect (PutsTwo p q) = length-put (putRow (remembered w t 2) t p) (t + 1) q ∙ length-put (remembered w t 2) t p ∙ length-remembered w t 2
+  length-effect Restores = length-taken w
   length-effect (Tells x) = refl
 
   behind-effect : (e : ModelEffect) → InRange t e → drop stateWords (wordsAfter w t e) ≡ drop stateWords w
   unfolding wordsAfter
-  behind-effect (Puts r) h = behind-kept w t r h
-  behind-effect (PutsTwo p q) h = behind-kept (putRow w t p) (t + 1) q h ∙ behind-kept w t p (omega (arith, h))
+  behind-effect (Puts r) h = behind-put (remembered w t 1) t r h ∙ behind-remembered w t 1 (omega arith)
+  behind-effect (PutsTwo p q) h =
+      behind-put (putRow (remembered w t 2) t p) (t + 1) q h ∙ behind-put (remembered w t 2) t p (omega (arith, h)) ∙ behind-remembered w t 2 (omega arith)
+  behind-effect Restores h = behind-taken w
   behind-effect (Tells x) h = refl
 
--- a command leaves as many words, those behind the rows as they are, and the model's command on the sheet that lies in them
+-- a command leaves as many words, those behind the sheet as they are, and the model's command on the sheet that lies in them
 module _ (w : List ℕ) (c : Command) (l : stateWords ≤ length w) where
   abbrev effect : ModelEffect
   effect = effectOn (modelOf w) c
 
+  abbrev a : ModelRow
+  a = rowAt (modelOf w .rows) (c .a)
+
+  abbrev b : ModelRow
+  b = rowAt (modelOf w .rows) (c .b)
+
+  abbrev some : Bool
+  some = isSome (modelOf w .history)
+
   range : InRange (c .t) effect
-  range = target-in-range c (rowAt (modelOf w .rows) (c .a)) (rowAt (modelOf w .rows) (c .b))
+  range = target-in-range c a b some
 
   by-effect : lentStep w c ≡ stepped (wordsAfter w (c .t) effect) (applied (modelOf w) (c .t) effect .answer)
   by-effect = sym (lent-by w c effect l refl)
@@ -74,9 +93,9 @@ module _ (w : List ℕ) (c : Command) (l : stateWords ≤ length w) where
   pub step-lent : steppedAs modelOf (lentStep w c) ≡ stepOf (modelOf w) c
   unfolding stepOf
   step-lent =
-      let fits = effect-fits c (rowAt (modelOf w .rows) (c .a)) (rowAt (modelOf w .rows) (c .b)) (row-fits w (c .a)) (row-fits w (c .b)) in
+      let fits = effect-fits c a b some (row-fits w (c .a)) (row-fits w (c .b)) in
       ap (λ (o : Stepped (List ℕ)). steppedAs modelOf o) by-effect
-      ∙ ap (λ (s : State). stepped s (applied (modelOf w) (c .t) effect .answer)) (effect-lent w (c .t) effect l range fits)
+      ∙ ap (λ (s : State). stepped s (applied (modelOf w) (c .t) effect .answer)) (effect-lent w (c .t) effect l range (restores-remembered c a b some) fits)
 
 -- ---- a list
 pub length-run : (w : List ℕ) (cs : List Command) → stateWords ≤ length w → length (lentRun w cs .state) ≡ length w

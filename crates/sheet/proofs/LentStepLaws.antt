@@ -1,6 +1,7 @@
 -- What `step` and `step_at` leave in lent words, from the effect that the program works out on the rows it has read modulo 64. Assumes nothing.
 use Prim.Native.Nat.{ℕ, _+_, _%_, _≤_, _<_}
-use mathlib.Core.Path.{_≡_, sym, ap, _∙_, subst}
+use mathlib.Core.Path.{_≡_, refl, sym, ap, _∙_, subst}
+use mathlib.Core.Bool.{Bool, true, false, cond}
 use mathlib.Core.List.{List}
 use native.Mathlib.Omega.{arith}
 use borrow.Author.Tests.{lt-ltb, le-ltb}
@@ -12,21 +13,26 @@ use Rattle.commands.specs.declared.command.Command.{Command}
 use Rattle.commands.specs.declared.command.Answer.{Answer}
 use Rattle.commands.specs.declared.command.Answer.the-variants.{Shown}
 use Rattle.commands.specs.declared.effects.Effect.{Effect}
-use Rattle.commands.specs.declared.effects.Effect.the-variants.{Tell, Put, PutTwo}
-use Rattle.commands.specs.Codes.{rowCount, directionKind, lentTooShort}
+use Rattle.commands.specs.declared.effects.Effect.the-variants.{Tell, Put, PutTwo, Restore}
+use Rattle.commands.specs.Codes.{rowCount, directionKind, lentTooShort, historyEmpty}
 use Rattle.commands.specs.Rows.{ModelRow, direction, rowOf, rowAt}
-use Rattle.commands.specs.Answers.{answerOf, numbersOf}
-use Rattle.commands.specs.Effects.{commandEffect, effectBy}
-use Rattle.commands.specs.Model.{Stepped, stepped, applied, effectOn}
-use Rattle.sheet.specs.Words.{stateWords, modelOf, putRow, wordsAfter, lentStep}
+use Rattle.commands.specs.Answers.{refused, answerOf, numbersOf}
+use Rattle.commands.specs.Effects.{ModelEffect, Restores, Tells, commandEffect, effectBy}
+use Rattle.commands.specs.Model.{Stepped, stepped, applied, restored, isSome, effectOn}
+use Rattle.sheet.specs.Rows.{putRow}
+use Rattle.sheet.specs.History.{remembered, takenBack}
+use Rattle.sheet.specs.Words.{stateWords, modelOf, wordsAfter, undone, lentStep}
 use Rattle.sheet.specs.Run.{steppedAt, lentStepAt}
 use Rattle.commands.proofs.CommandLaws.{InRange, target-in-range, effect-rows}
+use Rattle.commands.proofs.history.EmptyLaws.{unlessEmpty, by-history}
+use Rattle.sheet.proofs.words.PutLaws.{length-put}
+use Rattle.sheet.proofs.ring.RememberLaws.{length-remembered}
 use Rattle.sheet.proofs.LentLaws.{lent-by}
 
--- the words are enough, and the program's effect is the model's
+-- the words are enough, and the program's effect is the model's, but for a 33 that finds nothing
 pub record Found (w : List ℕ) (c : Command) (d : Effect) : Type 0 where
   pub long : stateWords ≤ length w
-  pub same : effectBy d ≡ effectOn (modelOf w) c
+  pub same : effectOn (modelOf w) c ≡ unlessEmpty (isSome (modelOf w .history)) (effectBy d)
 
 below : (rows : List ModelRow) (i : ℕ) (a : Row) → rowOf a ≡ rowAt rows (i % 64) → i < rowCount → rowOf a ≡ rowAt rows i
 below rows i a e h = let k : i % 64 ≡ i = omega arith in e ∙ ap (rowAt rows) k
@@ -36,43 +42,92 @@ pub found :
     → stateWords ≤ length w
     → rowOf a ≡ rowAt (modelOf w .rows) (c .a % 64)
     → rowOf b ≡ rowAt (modelOf w .rows) (c .b % 64)
-    → effectBy d ≡ commandEffect c (rowOf a) (rowOf b)
+    → effectBy d ≡ commandEffect c (rowOf a) (rowOf b) true
     → Found w c d
 found w c a b d l ea eb e =
     let rows = modelOf w .rows in
-    record { long = l; same = e ∙ effect-rows c (rowOf a) (rowOf b) (rowAt rows (c .a)) (rowAt rows (c .b)) (below rows (c .a) a ea) (below rows (c .b) b eb) }
+    let some = isSome (modelOf w .history) in
+    let read = effect-rows c (rowOf a) (rowOf b) (rowAt rows (c .a)) (rowAt rows (c .b)) true (below rows (c .a) a ea) (below rows (c .b) b eb) in
+    record { long = l; same = by-history c (rowAt rows (c .a)) (rowAt rows (c .b)) some ∙ ap (unlessEmpty some) (sym (e ∙ read)) }
 
 module _ {w : List ℕ} {c : Command} {d : Effect} (f : Found w c d) where
-  -- as the case of the enum that it is
-  by : (e : Effect) → d ≡ e → effectBy e ≡ effectOn (modelOf w) c
-  by e q = ap effectBy (sym q) ∙ f .same
+  abbrev some : Bool
+  some = isSome (modelOf w .history)
 
-  in-range : (e : Effect) → d ≡ e → InRange (c .t) (effectBy e)
-  in-range e q = subst (InRange (c .t)) (sym (by e q)) (target-in-range c (rowAt (modelOf w .rows) (c .a)) (rowAt (modelOf w .rows) (c .b)))
+  -- as the case of the enum that it is
+  by : (e : Effect) → d ≡ e → unlessEmpty some (effectBy e) ≡ effectOn (modelOf w) c
+  by e q = sym (f .same ∙ ap (λ (k : Effect). unlessEmpty some (effectBy k)) q)
+
+  -- what holds of the model's effect
+  holds : (P : ModelEffect → Type 0) → P (effectOn (modelOf w) c) → (e : Effect) → d ≡ e → P (unlessEmpty some (effectBy e))
+  holds P h e q = subst P (sym (by e q)) h
 
   pub put-range : (kind : ℕ) (v : Vec3) → d ≡ Put kind v → c .t < rowCount
   unfolding effectBy
-  put-range kind v q = in-range (Put kind v) q
+  put-range kind v q = holds (InRange (c .t)) (target-in-range c _ _ _) (Put kind v) q
 
   pub two-range : (u v : Vec3) → d ≡ PutTwo u v → c .t + 1 < rowCount
   unfolding effectBy
-  two-range u v q = in-range (PutTwo u v) q
+  two-range u v q = holds (InRange (c .t)) (target-in-range c _ _ _) (PutTwo u v) q
+
+  pub remembered-long : (w₁ : List ℕ) (n : ℕ) → w₁ ≡ remembered w (c .t) n → stateWords ≤ length w₁
+  remembered-long w₁ n e = omega (arith, ap length e, length-remembered w (c .t) n, f .long)
 
   pub tells : (x : Answer) → d ≡ Tell x → stepped w (answerOf x) ≡ lentStep w c
   unfolding applied effectBy wordsAfter
   tells x q = lent-by w c (effectBy (Tell x)) (f .long) (by (Tell x) q)
 
-  pub puts : (w′ : List ℕ) (kind : ℕ) (v : Vec3) → d ≡ Put kind v → w′ ≡ putRow w (c .t) (record { kind = kind; numbers = v })
-      → stepped w′ (answerOf (Shown (c .t) kind v)) ≡ lentStep w c
+  pub puts :
+      (w₁ w₂ : List ℕ) (kind : ℕ) (v : Vec3)
+      → d ≡ Put kind v
+      → w₁ ≡ remembered w (c .t) 1
+      → w₂ ≡ putRow w₁ (c .t) (record { kind = kind; numbers = v })
+      → stepped w₂ (answerOf (Shown (c .t) kind v)) ≡ lentStep w c
   unfolding applied effectBy wordsAfter answerOf
-  puts w′ kind v q e = ap (λ (k : List ℕ). stepped k (answerOf (Shown (c .t) kind v))) e ∙ lent-by w c (effectBy (Put kind v)) (f .long) (by (Put kind v) q)
+  puts w₁ w₂ kind v q e g =
+      let r : ModelRow = record { kind = kind; numbers = v } in
+      ap (λ (k : List ℕ). stepped k (answerOf (Shown (c .t) kind v))) (g ∙ ap (λ (k : List ℕ). putRow k (c .t) r) e)
+      ∙ lent-by w c (effectBy (Put kind v)) (f .long) (by (Put kind v) q)
 
-  pub puts-two : (w′ w″ : List ℕ) (u v : Vec3) → d ≡ PutTwo u v → w′ ≡ putRow w (c .t) (direction u) → w″ ≡ putRow w′ (c .t + 1) (direction v)
-      → stepped w″ (answerOf (Shown (c .t) directionKind u)) ≡ lentStep w c
+  pub puts-two :
+      (w₁ w₂ w₃ : List ℕ) (u v : Vec3)
+      → d ≡ PutTwo u v
+      → w₁ ≡ remembered w (c .t) 2
+      → w₂ ≡ putRow w₁ (c .t) (direction u)
+      → w₃ ≡ putRow w₂ (c .t + 1) (direction v)
+      → stepped w₃ (answerOf (Shown (c .t) directionKind u)) ≡ lentStep w c
   unfolding applied effectBy wordsAfter answerOf
-  puts-two w′ w″ u v q e g =
-      ap (λ (k : List ℕ). stepped k (answerOf (Shown (c .t) directionKind u))) (g ∙ ap (λ (k : List ℕ). putRow k (c .t + 1) (direction v)) e)
+  puts-two w₁ w₂ w₃ u v q e g h =
+      let first = g ∙ ap (λ (k : List ℕ). putRow k (c .t) (direction u)) e in
+      ap (λ (k : List ℕ). stepped k (answerOf (Shown (c .t) directionKind u))) (h ∙ ap (λ (k : List ℕ). putRow k (c .t + 1) (direction v)) first)
       ∙ lent-by w c (effectBy (PutTwo u v)) (f .long) (by (PutTwo u v) q)
+
+  pub restores : (w′ : List ℕ) (x : Answer) → d ≡ Restore → stepped w′ (answerOf x) ≡ undone w → stepped w′ (answerOf x) ≡ lentStep w c
+  unfolding effectBy undone wordsAfter applied
+  restores w′ x q e = e ∙ undone-by some ∙ lent-by w c (unlessEmpty some (effectBy Restore)) (f .long) (by Restore q)
+    where
+      nothing : ModelEffect
+      nothing = Tells (refused historyEmpty)
+
+      undone-by :
+          (b : Bool)
+          → cond b (stepped (takenBack w) (restored (modelOf w) (modelOf w .history) .answer)) (stepped w (refused historyEmpty))
+          ≡ stepped (wordsAfter w (c .t) (cond b Restores nothing)) (applied (modelOf w) (c .t) (cond b Restores nothing) .answer)
+      undone-by true = refl
+      undone-by false = refl
+
+-- 33, by whether anything is remembered
+module _ (w : List ℕ) where
+  pub undone-some : isSome (modelOf w .history) ≡ true → stepped (takenBack w) (restored (modelOf w) (modelOf w .history) .answer) ≡ undone w
+  unfolding undone
+  undone-some h = simp h
+
+  pub undone-none : isSome (modelOf w .history) ≡ false → stepped w (refused historyEmpty) ≡ undone w
+  unfolding undone
+  undone-none h = simp h
+
+pub put-long : (w w′ : List ℕ) (i : ℕ) (r : ModelRow) → stateWords ≤ length w → w′ ≡ putRow w i r → stateWords ≤ length w′
+put-long w w′ i r l e = omega (arith, ap length e, length-put w i r, l)
 
 -- ---- in numbers
 module _ (w : List ℕ) (c : Command) (out : List ℕ) (at : ℕ) where

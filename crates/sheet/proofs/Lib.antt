@@ -1,5 +1,6 @@
 -- The laws and proofs of crate sheet, file by file.
-pub mod WordLaws
+pub mod words
+mod ring
 pub mod RunByLaws
 pub mod LentStepLaws
 pub mod LentLaws

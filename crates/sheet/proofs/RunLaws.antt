@@ -19,7 +19,7 @@ use Rattle.sheet.specs.Words.{stateWords, modelOf, lentStep, lentRun}
 use Rattle.commands.specs.Fields.{commandOf}
 use Rattle.sheet.specs.Run.{commandsOf, count, listOf, allNumbersOf, SteppedAt, steppedAt, lentStepAt, refusalOfLengths, listRefusal, Runs, RunsAll}
 use Rattle.commands.proofs.ClaimLaws.{model-claim}
-use Rattle.sheet.proofs.WordLaws.{zeros-fresh}
+use Rattle.sheet.proofs.words.WordLaws.{zeros-fresh}
 use Rattle.sheet.proofs.RunByLaws.{run-snoc-state, run-snoc-answers}
 use Rattle.sheet.proofs.LentLaws.{run-lent, length-run, lent-claim}
 use Rattle.sheet.proofs.LentStepLaws.{at-room}

@@ -1,20 +1,22 @@
-// The rows of a sheet, which lies in words that a caller lends: 64 rows of five words, the kind, three numbers as bits, and a fourth that is 0.
+// The rows of a sheet, which lies in words that a caller lends: 64 rows of five words, the kind, three numbers as bits, and a fourth that is 0; behind them is what
+// it remembers (history.rt).
 ghost use mathlib.Core.Path.{_≡_};
 ghost use mathlib.Core.List.{[], _∷_};
 ghost use Prim.Native.Nat.{_+_, _≤_, _<_};
 ghost use lib.ListN.{length};
 ghost use lib.Seq.{sets};
 ghost use Rattle.commands.specs.Rows.{rowOf, rowAt};
-ghost use Rattle.sheet.specs.Words.{stateWords, modelOf, putRow};
+ghost use Rattle.sheet.specs.Rows.{putRow};
+ghost use Rattle.sheet.specs.Words.{stateWords, modelOf};
 use commands::row::Row;
 use scalar::bits::from_bits;
 use scalar::bits::to_bits;
 use vector::vec3::Vec3;
 
 // The words of a row, and of a sheet: what is behind them is the caller's.
-const ROW_WIDTH: usize = 5;
+pub(crate) const ROW_WIDTH: usize = 5;
 
-pub const STATE_WORDS: usize = 320;
+pub const STATE_WORDS: usize = 1089;
 
 // Row i.
 pub(crate) fn row_at(state: &[u32], i: usize) -> Row
@@ -32,7 +34,7 @@ pub(crate) fn row_at(state: &[u32], i: usize) -> Row
     }
 }
 
-fn put_five(state: &mut [u32], at: usize, kind: u32, x: u32, y: u32, z: u32, w: u32)
+pub(crate) fn put_five(state: &mut [u32], at: usize, kind: u32, x: u32, y: u32, z: u32, w: u32)
     requires { ⌜ at + 5 ≤ length (now state) ⌝ }
     ensures { λ _. ⌜ now (state .exit) ≡ sets (now (state .entry)) at (kind ∷ x ∷ y ∷ z ∷ w ∷ []) ⌝ }
 {

@@ -1,23 +1,41 @@
-// One command, in place: its refusal or its effect, and the rows that it writes. No other function writes rows.
+// One command, in place: its refusal or its effect, and the rows that it writes or brings back. No other function writes rows.
 ghost use mathlib.Core.Path.{_≡_};
-ghost use lib.ListN.{drop};
+ghost use Prim.Native.Nat.{_≤_};
+ghost use lib.ListN.{length, drop};
 ghost use Rattle.commands.specs.Answers.{answerOf};
 ghost use Rattle.commands.specs.Model.{stepped};
-ghost use Rattle.sheet.specs.Words.{lentStep};
+ghost use Rattle.sheet.specs.Words.{stateWords, undone, lentStep};
 ghost use Rattle.commands.specs.Fields.{commandOf};
 ghost use Rattle.sheet.specs.Run.{steppedAt, lentStepAt};
 use crate::answer::put_answer;
 use crate::answer::refusal_of;
+use crate::history::remember_one;
+use crate::history::remember_two;
+use crate::history::remembers;
+use crate::history::restore;
 use crate::rows::STATE_WORDS;
 use crate::rows::put_row;
 use crate::rows::row_at;
 use commands::codes::DIRECTION;
+use commands::codes::HISTORY_EMPTY;
 use commands::codes::LENT_TOO_SHORT;
 use commands::command::Answer;
 use commands::command::Command;
 use commands::command::command_at;
 use commands::effects::Effect;
 use commands::effects::effect_of;
+
+// 33: takes back the latest command that is remembered. "With nothing remembered [it] is refused by 11".
+fn undo(state: &mut [u32]) -> Answer
+    requires { ⌜ stateWords ≤ length (now state) ⌝ }
+    ensures { λ r. ⌜ stepped (now (state .exit)) (answerOf r) ≡ undone (now (state .entry)) ⌝ }
+{
+    if remembers(state) {
+        restore(state)
+    } else {
+        Answer::Refused(HISTORY_EMPTY)
+    }
+}
 
 // The command on the sheet that lies in the words. A row above 63 is refused where it is used, and not read where it is not: any row may stand in its place.
 pub fn step(state: &mut [u32], c: Command) -> Answer
@@ -34,6 +52,7 @@ pub fn step(state: &mut [u32], c: Command) -> Answer
         Effect::Tell(x) => x,
         Effect::Put { kind, v } => {
             let t = c.t as usize;
+            remember_one(state, c.t);
             put_row(state, t, kind, v);
             Answer::Shown {
                 row: c.t,
@@ -43,6 +62,7 @@ pub fn step(state: &mut [u32], c: Command) -> Answer
         }
         Effect::PutTwo { v, w } => {
             let t = c.t as usize;
+            remember_two(state, c.t);
             put_row(state, t, DIRECTION, v);
             let next = t + 1;
             put_row(state, next, DIRECTION, w);
@@ -52,6 +72,7 @@ pub fn step(state: &mut [u32], c: Command) -> Answer
                 v: v,
             }
         }
+        Effect::Restore => undo(state),
     }
 }
 

@@ -1,4 +1,4 @@
--- Document 01's listing as a whole input, and the inputs without a command, computed from the definitions. Texts stand for their bytes.
+-- Document 01's listing as a whole input, a point that is taken back, and the inputs without a command, computed from the definitions. Texts stand for their bytes.
 use Prim.Native.Nat.{ℕ}
 use Prim.Native.String.{String}
 use mathlib.Core.Path.{_≡_, refl}
@@ -46,6 +46,10 @@ length = line " 26  0  0  0          0          0          0"
 abbrev lengthAnswer : List ℕ
 lengthAnswer = line "  0  0  3 1084227584          0          0"
 
+-- a 33, with fields that it does not use
+abbrev back : List ℕ
+back = line " 33999999999 2143289344 2143289344 2143289344"
+
 abbrev pub ill : List ℕ
 ill = line "  1  0  0          0          0          0"
 
@@ -54,6 +58,10 @@ pub record Corners : Type 0 where
   listed :
       outputOf fresh (point ++ length ++ line "  2  1  0  0          0          0          0")
       ≡ pointAnswer ++ lengthAnswer ++ line "  0  1  2 1058642330 1061997773          0"
+  -- document 02, a: a point is taken back, and then "nothing remembered is refused by 11"
+  taken-back :
+      outputOf fresh (point ++ back ++ back)
+      ≡ pointAnswer ++ line "  0  0  0          0          0          0" ++ line " 11  0  0          0          0          0"
   -- "input without bytes gives no output"
   empty : outputOf fresh [] ≡ []
   -- "1, not 45 bytes before a line feed"
@@ -66,5 +74,5 @@ pub record Corners : Type 0 where
   in-between : outputOf fresh (point ++ (10 ∷ []) ++ length ++ (32 ∷ [])) ≡ pointAnswer ++ ill ++ lengthAnswer ++ ill
 
 pub corners : Corners
-unfolding Texts.bytes Responses.response Responses.answerText Stream.pushed Stream.byteFed Stream.feedOf Stream.endOf Fields.commandOf Field.digits Field.decimal Field.valueFrom Field.value Field.leadingZero Field.number Field.glyph Field.lead Field.written Columns.fieldAt Columns.both Columns.numbersAt Columns.text CommandLine.numbers AnswerLine.answerLine Model.stepOf Model.applied Effects.effectOf Effects.directionIn Effects.unlessRefused Effects.commandEffect Rows.fresh Rows.rowAt Rows.withRow Commands.table Commands.entryAt Commands.allows Results.directionOf Refusals.unknown Refusals.noRow Refusals.badSource Refusals.outOfOrder Refusals.outOfRange Refusals.badValue Refusals.noRefraction Refusals.isNothing Refusals.lacksDirection Refusals.noFactor Refusals.noDirection Refusals.notFinite Refusals.first Refusals.early Refusals.late Refusals.refusals Refusals.refusalOf Comparisons.isFinite Normalizing.tryNormalize Normalizing.usable Products.length Products.lengthSquared Products.lengthRecip Products.dot Operators.mulNumber Root.root Root.rootUnits WholeRoot.wholeRoot Exact.sizeIn Exact.negative Ieee.round Ieee.neg Ieee.div Ieee.sub Ieee.le Ieee.lt Ieee.eq Ieee.add Ieee.sum Ieee.mul Ieee.ofBits Ieee.toBits
-corners = record { listed = refl; empty = refl; blank-line = refl; column-more = refl; columns-more = refl; unended = refl; in-between = refl }
+unfolding Texts.bytes Responses.response Responses.answerText Stream.pushed Stream.byteFed Stream.feedOf Stream.endOf Fields.commandOf Field.digits Field.decimal Field.valueFrom Field.value Field.leadingZero Field.number Field.glyph Field.lead Field.written Columns.fieldAt Columns.both Columns.numbersAt Columns.text CommandLine.numbers AnswerLine.answerLine Model.stepOf Model.applied Model.remembering Model.restored Effects.effectOf Effects.directionIn Effects.unlessRefused Effects.commandEffect Rows.fresh Rows.rowAt Rows.withRow Commands.table Commands.entryAt Commands.allows Results.directionOf Refusals.unknown Refusals.noRow Refusals.nothingRemembered Refusals.badSource Refusals.outOfOrder Refusals.outOfRange Refusals.badValue Refusals.noRefraction Refusals.isNothing Refusals.lacksDirection Refusals.noFactor Refusals.noDirection Refusals.notFinite Refusals.first Refusals.early Refusals.late Refusals.refusals Refusals.refusalOf Comparisons.isFinite Normalizing.tryNormalize Normalizing.usable Products.length Products.lengthSquared Products.lengthRecip Products.dot Operators.mulNumber Root.root Root.rootUnits WholeRoot.wholeRoot Exact.sizeIn Exact.negative Ieee.round Ieee.neg Ieee.div Ieee.sub Ieee.le Ieee.lt Ieee.eq Ieee.add Ieee.sum Ieee.mul Ieee.ofBits Ieee.toBits
+corners = record { listed = refl; taken-back = refl; empty = refl; blank-line = refl; column-more = refl; columns-more = refl; unended = refl; in-between = refl }

@@ -20,7 +20,7 @@ use Rattle.stream.specs.Stream.{Held, held, feedOf, consumedOf, FedInto,
 use Rattle.stream.specs.Responses.{answerText}
 use Rattle.stream.specs.Inputs.{cut, commandsIn, Answered}
 use Rattle.stream.specs.Calls.{Calls, feed, short, ended, CallsAnswered, FreshAnswered, FreshCallsAnswered}
-use Rattle.sheet.proofs.WordLaws.{zeros-long, zeros-fresh}
+use Rattle.sheet.proofs.words.WordLaws.{zeros-long, zeros-fresh}
 use Rattle.stream.proofs.turns.AnswerLaws.{length-text}
 use Rattle.stream.proofs.inputs.PieceLaws.{feed-append-held, feed-append-text}
 use Rattle.stream.proofs.inputs.InputLaws.{inputs-answered}

@@ -1,5 +1,5 @@
 -- `sheet::rows::put_row` meets its contract. Assumes nothing.
-use Rattle.sheet.specs.Words.{rowWords, putRow}
+use Rattle.sheet.specs.Rows.{rowWords, putRow}
 use borrow.Author.Needs.{needs}
 use Rattle.sheet.proofs.rows.put_row.Statement.{statement}
 use Rattle.sheet.proofs.rows.put_row.Tie as tie

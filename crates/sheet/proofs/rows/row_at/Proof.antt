@@ -1,6 +1,6 @@
 -- `sheet::rows::row_at` meets its contract. Assumes nothing.
 use native.Mathlib.Omega.{arith}
-use Rattle.sheet.proofs.WordLaws.{row-told}
+use Rattle.sheet.proofs.words.WordLaws.{row-told}
 use borrow.Author.Needs.{needs}
 use Rattle.sheet.proofs.rows.row_at.Statement.{statement}
 use Rattle.sheet.proofs.rows.row_at.Tie as tie
