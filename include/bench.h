@@ -36,6 +36,7 @@ float bench_rem(float a, float b);
 /* ---- A sheet, its commands and their answers.
 
    A sheet has 64 rows, numbered from 0 to 63. A row is empty, or it holds a point or a direction: three floats. A fresh sheet is empty. A command reads rows, may write one or two, and is answered.
+   A sheet remembers the last 64 commands among 0 to 24 that were done and not taken back; refused ones and those above 24 are not remembered.
 
    A command is seven numbers: its own number, the row t that it writes, the rows a and b that it reads, and the values u, v and w, which are the bits of floats (0x3f800000 is 1). Fields that a
    command does not use may hold any number. a and b below stand for what these rows hold before anything is written.
@@ -56,23 +57,25 @@ float bench_rem(float a, float b);
      12  t a b     a rejected from b                     30  a         position (0 to 2) of the greatest component of a
      13  t a b u   from a to b by the share u            31  a b       bits 1, 2 and 4 where x, y and z of a are at most b's
      14  t a b u   from a towards b by u                 32  a         shows a
-     15  t a b     midpoint of a and b
+     15  t a b     midpoint of a and b                   33            takes back the latest command that is remembered
      16  t a       a cut toward zero
 
-   Commands 2 and 22 to 24 make t a direction, 1 and 3 to 21 a point.
+   Commands 2 and 22 to 24 make t a direction, 1 and 3 to 21 a point. After 33 all rows are as they were before the command that it takes back, both rows of 24 among them; that command is no longer
+   remembered, and nothing can be redone.
 
    An answer is six numbers: refusal, row, kind and three values. The refusal is 0 where the command was done, and then row and values are, by the kind,
 
-     0  row t, which 0 has emptied; the values are 0
-     1  a row that is a point, t or in command 32 a; the values are the bits of its floats
+     0  a row that is empty, t of command 0 or in 33 that of the command taken back; the values are 0
+     1  a row that is a point, t, in command 32 a, or in 33 row t of the command taken back, as it is now; the values are the bits of its floats
      2  a row that is a direction, likewise
      3  row 0; the first value is the bits of a float (commands 25 to 28), the others are 0
      4  row 0; the first value is a whole number (commands 29 to 31), the others are 0
 
-   Where the refusal is not 0, no row has changed, and the other five numbers are 0. Of these it is the first that holds, in the order 2, 3, 4, 5, 8, 7, 6:
+   Where the refusal is not 0, no row has changed, the same commands are remembered, and the other five numbers are 0. Of these it is the first that holds, in the order 2, 3, 11, 4, 5, 8, 7, 6:
 
-     2  the command's number is above 32
+     2  the command's number is above 33
      3  a row that the command uses is above 63, or t is 63 in 24
+    11  in 33 no command is remembered
      4  a row that it reads is empty, or is no direction in 22 to 24
      5  a value that it uses is not finite; in 10 not 0 <= u <= v; in 23 u is not from 0.25 to 4
      8  in 23 all is reflected and nothing refracted
@@ -95,7 +98,7 @@ uint32_t bench_run(const uint32_t *commands, size_t count, uint32_t *answers, si
 /* ---- A sheet that a program keeps.
 
    It lies in the first bench_words() of the `words` words that the program lends to each call; those behind it are always left as they were. What a sheet's words hold is the library's matter, but for this:
-   zeros are a fresh sheet, a copy of the words is a copy of the sheet, and a command that writes no row, being refused or above 24, leaves every word as it was. */
+   zeros are a fresh sheet, a copy of the words is a copy of the sheet with what it remembers, and a command that is refused or is one of 25 to 32 leaves every word as it was. */
 
 /* How many words a sheet has. */
 size_t bench_words(void);

@@ -1,4 +1,4 @@
-/* Keeps a sheet over several calls from C: commands one by one, a line, a list, and a command that is refused.
+/* Keeps a sheet over several calls from C: commands one by one, a line, a list, a command that is refused, and one that is taken back.
    rt staticlib capi && gcc -I include examples/callers/kept.c target/staticlib/libcapi.a -o target/kept && target/kept */
 #include "bench.h"
 #include <inttypes.h>
@@ -55,6 +55,12 @@ int main(void)
         show("row 0 less row 2", answer);
     bench_step(sheet, words, 32, 0, 0, 0, 0, 0, 0, answer, BENCH_ANSWER);
     show("row 0", answer);
+
+    /* the direction of row 1 into row 0, where row 2 was meant: 33 takes it back, and shows row 0, which is the point again */
+    bench_step(sheet, words, 2, 0, 1, 0, 0, 0, 0, answer, BENCH_ANSWER);
+    show("a mistyped target", answer);
+    bench_step(sheet, words, 33, 0, 0, 0, 0, 0, 0, answer, BENCH_ANSWER);
+    show("taken back", answer);
 
     /* the direction of row 0 into row 2, as a line; its answer is a line too, with a line feed */
     const char *line = "  2  2  0  0          0          0          0";

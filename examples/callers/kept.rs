@@ -1,4 +1,4 @@
-// Keeps a sheet over several calls from Rust: commands one by one, a line, a list, and a command that is refused.
+// Keeps a sheet over several calls from Rust: commands one by one, a line, a list, a command that is refused, and one that is taken back.
 // rt staticlib capi && rustc -O examples/callers/kept.rs -L target/staticlib -l static=capi -o target/kept && target/kept
 
 extern "C" {
@@ -74,6 +74,9 @@ fn main() {
     // row 0 less row 2, which is empty: refused by 4, and row 0 is as it was
     println!("row 0 less row 2: {:?}", sheet.step([4, 0, 0, 2, 0, 0, 0]));
     println!("row 0: {:?}", sheet.step([32, 0, 0, 0, 0, 0, 0]));
+    // the direction of row 1 into row 0, where row 2 was meant: 33 takes it back, and shows row 0, which is the point again
+    println!("a mistyped target: {:?}", sheet.step([2, 0, 1, 0, 0, 0, 0]));
+    println!("taken back: {:?}", sheet.step([33, 0, 0, 0, 0, 0, 0]));
     // the direction of row 0 into row 2, as a line
     println!("a line: {:?}", sheet.respond("  2  2  0  0          0          0          0"));
     // two directions orthogonal to row 2 into rows 3 and 4, the dot product of rows 2 and 4, and the greatest component of row 1
