@@ -1,25 +1,24 @@
--- What a command comes to, whatever its number: it writes rows that there are, with f32 numbers, takes back only what is remembered, and does not depend on a
--- source row above 63. Assumes nothing.
+-- What a command comes to, whatever its number: it writes rows that there are, with f32 numbers, and does not depend on a source row above 63. Assumes nothing.
 use Prim.Native.Nat.{ℕ, zero, suc, _+_, _<_}
 use native.Mathlib.Omega.{arith}
 use mathlib.Core.Path.{_≡_, refl, sym, ap, _∙_, subst}
-use mathlib.Core.Bool.{Bool, true, false, not}
-use lib.Dec.{eqb, ltb, eqb·suc-zero}
+use mathlib.Core.Bool.{Bool, true, false}
+use lib.Dec.{ltb, eqb·suc-zero}
 use lib.Ieee.{binary32}
 use lib.Ieee.Bits.{ofBits-fits}
-use borrow.Author.Tests.{ltb-true, ltb-false, eq-eqb, not-false}
+use borrow.Author.Tests.{ltb-true, ltb-false}
 use Rattle.vector.specs.ExactVectors.{F32Vec}
 use Rattle.vector.proofs.values.VectorFits.{zero-vector}
 use Rattle.commands.specs.declared.command.Command.{Command}
-use Rattle.commands.specs.Codes.{rowCount, undo}
+use Rattle.commands.specs.Codes.{rowCount}
 use Rattle.commands.specs.Rows.{ModelRow}
 use Rattle.commands.specs.Fields.{sourcesOf}
 use Rattle.commands.specs.Results.{Result, Empties, Point, Aim, Aims, Number, Whole, Shows, Undoes}
 use Rattle.commands.specs.Commands.{entryAt}
-use Rattle.commands.specs.Refusals.{nothingRemembered, refusalOf}
+use Rattle.commands.specs.Refusals.{refusalOf}
 use Rattle.commands.specs.Answers.{refused}
 use Rattle.commands.specs.Effects.{ModelEffect, Puts, PutsTwo, Restores, Tells, effectOf, unlessRefused, commandEffect}
-use Rattle.commands.proofs.ConditionLaws.{Done, done, met, known-number, RowsThere, rows-there}
+use Rattle.commands.proofs.ConditionLaws.{Done, done, known-number, RowsThere, rows-there}
 use Rattle.commands.proofs.table.EntryLaws.{Targets, FitSources, FitResult}
 use Rattle.commands.proofs.table.TableLaws.{entry-lawful}
 use Rattle.commands.proofs.DirectionOfLaws.{direction-fits}
@@ -67,29 +66,6 @@ pub target-in-range : (c : Command) (a b : ModelRow) (m : Bool) → InRange (c .
 target-in-range c a b m =
     effect-any (InRange (c .t)) c a b m (λ k. tt) (λ d.
     result-in-range c _ (rows-there c (d .rows-there)) (entry-lawful (c .number) (known-number (c .number) (d .known)) .targets (sourcesOf c a b)))
-
--- ---- something to take back
-abbrev pub Remembered : Bool → ModelEffect → Type 0
-Remembered m (Puts r) = Unit {0}
-Remembered m (PutsTwo r s) = Unit {0}
-Remembered m Restores = m ≡ true
-Remembered m (Tells x) = Unit {0}
-
-result-remembered : (n : ℕ) (t m : Bool) (r : Result) → nothingRemembered n m ≡ false → Targets n t r → Remembered m (effectOf r)
-unfolding effectOf nothingRemembered
-result-remembered n t m Empties h u = tt
-result-remembered n t m (Point v) h u = tt
-result-remembered n t m (Aim v) h u = tt
-result-remembered n t m (Aims v w) h u = tt
-result-remembered n t m (Number x) h u = tt
-result-remembered n t m (Whole k) h u = tt
-result-remembered n t m (Shows i r) h u = tt
-result-remembered n t m Undoes h u = not-false m (met (eqb n undo) (not m) (eq-eqb n undo (u .1)) h)
-
-pub restores-remembered : (c : Command) (a b : ModelRow) (m : Bool) → Remembered m (commandEffect c a b m)
-restores-remembered c a b m =
-    effect-any (Remembered m) c a b m (λ k. tt) (λ d.
-    result-remembered (c .number) _ m _ (d .remembered) (entry-lawful (c .number) (known-number (c .number) (d .known)) .targets (sourcesOf c a b)))
 
 -- ---- f32 numbers
 abbrev pub FitEffect : ModelEffect → Type 0

@@ -100,7 +100,7 @@ pub record Corners : Type 0 where
   above-last : answersTo (command 34 0 0 0 0 0 0 ∷ []) ≡ refused 2 ∷ []
   -- "Command 33 with nothing remembered is refused by 11", whatever its fields
   nothing-yet : answersTo (command 33 0 0 0 0 0 0 ∷ back ∷ []) ≡ refused 11 ∷ refused 11 ∷ []
-  -- "the answer shows that command's row t as it is now": empty, or what "a mistyped target" had lost
+  -- "the answer shows that command's row t as it is now": empty, or what a mistyped target had overwritten
   point-back : lastOf (answersTo (pointInto 5 0x3f800000 ∷ back ∷ [])) ≡ answer 0 5 0 0 0 0
   lost-back : lastOf (answersTo (pointInto 0 0x3f800000 ∷ pointInto 0 0x40000000 ∷ back ∷ [])) ≡ answer 0 0 1 0x3f800000 0 0
   emptied-back : lastOf (answersTo (pointInto 0 0x3f800000 ∷ command 0 0 0 0 0 0 0 ∷ back ∷ [])) ≡ answer 0 0 1 0x3f800000 0 0

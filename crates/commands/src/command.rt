@@ -53,6 +53,7 @@ fn seven_at(numbers: &[u32], at: usize) -> Command
     }
 }
 
+// Some may be missing: each is looked for.
 fn fewer_at(numbers: &[u32], at: usize) -> Command
     ensures { λ r. ⌜ r ≡ commandOf (drop at (now (numbers .entry))) ⌝ }
 {

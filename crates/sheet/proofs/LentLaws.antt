@@ -17,7 +17,8 @@ use Rattle.commands.proofs.ClaimLaws.{model-claim}
 use Rattle.sheet.specs.Rows.{putRow}
 use Rattle.sheet.specs.History.{remembered}
 use Rattle.sheet.specs.Words.{stateWords, modelOf, wordsAfter, lentStep, lentRun}
-use Rattle.commands.proofs.CommandLaws.{InRange, Remembered, FitEffect, target-in-range, restores-remembered, effect-fits}
+use Rattle.commands.proofs.CommandLaws.{InRange, FitEffect, target-in-range, effect-fits}
+use Rattle.commands.proofs.history.EmptyLaws.{Remembered, restores-remembered}
 use Rattle.sheet.proofs.RunByLaws.{steppedAs, ranAs, runBy-keeps, runBy-related}
 use Rattle.sheet.proofs.words.WordLaws.{row-fits}
 use Rattle.sheet.proofs.words.PutLaws.{length-put, behind-put}

@@ -13,7 +13,8 @@ use Rattle.commands.specs.Effects.{ModelEffect, Puts, PutsTwo, Restores,
 use Rattle.commands.specs.Model.{Stepped, stepped, restored, applied, isSome, stepOf}
 use Rattle.commands.specs.Claim.{Sound, SoundRow, sourcesAt, refusalAt, Orthogonal, Well}
 use Rattle.commands.proofs.ConditionLaws.{Done, done}
-use Rattle.commands.proofs.CommandLaws.{InRange, target-in-range, Remembered, restores-remembered, effect-done, effect-refused}
+use Rattle.commands.proofs.CommandLaws.{InRange, target-in-range, effect-done, effect-refused}
+use Rattle.commands.proofs.history.EmptyLaws.{Remembered, restores-remembered}
 use Rattle.commands.proofs.claim.RefusalLaws.{Directed, directed}
 use Rattle.commands.proofs.claim.RowLaws.{with-row-sound, with-rows-sound, restored-sound, length-with-row, read-same, read-other}
 use Rattle.commands.proofs.claim.SourceLaws.{Held, held}

@@ -1,6 +1,6 @@
 -- What a command comes to where something or nothing is remembered, from what it comes to where something is: 33 alone depends on it. Assumes nothing.
 use Prim.Native.Nat.{ℕ}
-use mathlib.Core.Path.{_≡_, refl, sym, ap, _∙_}
+use mathlib.Core.Path.{_≡_, refl, sym, ap, _∙_, subst}
 use mathlib.Core.Bool.{Bool, true, false, cond}
 use lib.Dec.{eqb}
 use borrow.Author.Tests.{eqb-true, eqb-false}
@@ -55,3 +55,20 @@ by-history c a b m = go (eqb (c .number) undo) refl
     go : (is : Bool) → eqb (c .number) undo ≡ is → commandEffect c a b m ≡ unlessEmpty m (commandEffect c a b true)
     go true e = let is = eqb-true (c .number) undo e in effect-undo c a b m is ∙ sym (ap (unlessEmpty m) (effect-undo c a b true is))
     go false e = other-refusal c a b m e ∙ other-same m c a b (eqb-false (c .number) undo e)
+
+-- so nothing is taken back but what is remembered
+abbrev pub Remembered : Bool → ModelEffect → Type 0
+Remembered m (Puts r) = Unit {0}
+Remembered m (PutsTwo r s) = Unit {0}
+Remembered m Restores = m ≡ true
+Remembered m (Tells x) = Unit {0}
+
+unless-remembered : (m : Bool) (e : ModelEffect) → Remembered m (unlessEmpty m e)
+unless-remembered m (Puts r) = tt
+unless-remembered m (PutsTwo r s) = tt
+unless-remembered true Restores = refl
+unless-remembered false Restores = tt
+unless-remembered m (Tells x) = tt
+
+pub restores-remembered : (c : Command) (a b : ModelRow) (m : Bool) → Remembered m (commandEffect c a b m)
+restores-remembered c a b m = subst (Remembered m) (sym (by-history c a b m)) (unless-remembered m (commandEffect c a b true))
