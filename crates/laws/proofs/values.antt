@@ -3,4 +3,5 @@ pub mod ValueLaws
 pub mod SizeLaws
 pub mod FiniteLaws
 pub mod ValueOrderLaws
+pub mod AscendingLaws
 pub mod WholeLaws

@@ -2,8 +2,8 @@
 use mathlib.Core.Path.{_≡_, refl, sym, ap, _∙_}
 use mathlib.Core.Bool.{Bool, true, false}
 use mathlib.Core.Logic.{inl, inr}
-use Prim.Native.Nat.{ℕ, _+_, _*_, _%_, _^_, _≤_, _<_, compare, Ordering, Ordering·lt, Ordering·eq, Ordering·gt}
-use native.Mathlib.Nat.{le-antisymm, lt-of-mul-lt-mul-right, add-comm, add-mul}
+use Prim.Native.Nat.{ℕ, _+_, _*_, _%_, _^_, _≤_, _<_}
+use native.Mathlib.Nat.{le-refl, le-antisymm, lt-of-mul-lt-mul-right, add-mul}
 use native.Mathlib.Omega.{arith}
 use lib.Arith.{digits-mod}
 use lib.Pow.{pow-pos}
@@ -12,34 +12,23 @@ use lib.Ieee.Nearest.{closest}
 use Rattle.laws.specs.Within.{distance, Within}
 use Rattle.laws.specs.Exact.{negative, sizeIn}
 use Rattle.laws.specs.Determines.{Determines}
-use Rattle.laws.proofs.numbers.CompareLaws.{Cmp, cmp, equal-or-not}
+use Rattle.laws.proofs.numbers.CompareLaws.{equal-or-not}
 use Rattle.laws.proofs.rounding.ClosestLaws.{closest-near, near-of-best, even-unique}
 use Rattle.laws.proofs.numbers.SignedLaws.{zero-or-signed}
 use Rattle.laws.proofs.values.SizeLaws.{size-unique}
 use Rattle.laws.proofs.rounding.RoundDetermined.{rounding-determined}
-use Rattle.scalar.specs.RootMeaning.{NearestRoot, radicand}
+use Rattle.scalar.specs.RootMeaning.{NearestRoot}
 use Rattle.scalar.specs.FusedMeaning.{RoundedOnce, exactSum}
 use Rattle.scalar.specs.IntegralMeaning.{Whole, Truncated, Floored, RoundedEven}
 use Rattle.scalar.specs.RemainderMeaning.{Remainder}
 use Rattle.scalar.specs.Determined.{Determined}
+use Rattle.scalar.proofs.roots.RootOrderLaws.{nearest-order}
 
--- ---- the root: the middle of two sizes would be on both sides of it
+-- ---- the root: neither of two is below the other
 root-determines : (x : Float) → Determines (NearestRoot x)
-root-determines x r t m l = size-unique binary32 r t (m .value) (l .value) (m .number) (l .number) (m .sign ∙ sym (l .sign)) (go (compare n k) (cmp n k))
-  where
-    n : ℕ
-    n = sizeIn binary32 r
-
-    k : ℕ
-    k = sizeIn binary32 t
-
-    both-sides : (n k z : ℕ) → z < (n + k) * (n + k) → (k + n) * (k + n) < z → ⊥
-    both-sides n k z h g = let e : (n + k) * (n + k) ≡ (k + n) * (k + n) = ap (λ (i : ℕ). i * i) (add-comm n k) in omega arith
-
-    go : (o : Ordering) → Cmp o n k → n ≡ k
-    go Ordering·lt h = absurd (both-sides n k (4 * radicand x) (m .upper t (l .value) h) (l .lower r (m .value) h))
-    go Ordering·eq h = h
-    go Ordering·gt h = absurd (both-sides k n (4 * radicand x) (l .upper r (m .value) h) (m .lower t (l .value) h))
+root-determines x r t m l =
+    size-unique binary32 r t (m .value) (l .value) (m .number) (l .number) (m .sign ∙ sym (l .sign))
+    (le-antisymm (nearest-order x x r t m l (le-refl (sizeIn binary32 x))) (nearest-order x x t r l m (le-refl (sizeIn binary32 x))))
 
 -- ---- the fused multiply-add: the exact sum is zero, or has a sign and a size that are rounded
 fused-determines : (a b c : Float) → Determines (RoundedOnce a b c)

@@ -1,7 +1,9 @@
--- The root: Newton's steps, the rounded root, what it means and its error.
+-- The root: Newton's steps, the rounded root, what it means, its error and its order.
 pub mod NewtonLaws
 pub mod RootLaws
 pub mod RootPartsLaws
 pub mod RootCases
 pub mod RootMeaningLaws
 pub mod RootErrorLaws
+pub mod RootOrderLaws
+pub mod RootMonotoneLaws

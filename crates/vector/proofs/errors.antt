@@ -2,7 +2,6 @@
 pub mod SquaredLengthLaws
 pub mod SquaredLengthBounds
 pub mod SquaredLengthErrors
-pub mod RootOrderLaws
 pub mod ReciprocalLaws
 pub mod ReciprocalErrors
 pub mod DotSums

@@ -1,4 +1,4 @@
--- What the definitions come to: masks, components, order, positions, clamps, signs, orthogonal vectors, and where there is no direction.
+-- What the definitions come to: masks, components, order, positions, clamps, signs, orthogonal vectors, where there is no direction, and longer parts.
 pub mod MaskLaws
 pub mod IndexedLaws
 pub mod OrderLaws
@@ -7,3 +7,4 @@ pub mod PositionLaws
 pub mod SignsLaws
 pub mod NormalizingLaws
 pub mod OrthogonalLaws
+pub mod LongerPartsLaws

@@ -1,9 +1,9 @@
--- The marked corners of document 01 that concern vectors, computed from the definitions. f is the float of a bit pattern.
+-- The marked corners of document 01 that concern vectors, and those of document 02's b, computed from the definitions. f is the float of a bit pattern.
 use mathlib.Core.Path.{_≡_, refl}
-use mathlib.Core.Bool.{true}
+use mathlib.Core.Bool.{true, false}
 use Prim.Native.Nat.{ℕ}
 use lib.Ieee as Ieee
-use lib.Ieee.{Float, nan, binary32, ofBits, round, sum, add, mul, div, neg, lt, eq, le}
+use lib.Ieee.{Float, nan, inf, binary32, ofBits, round, sum, add, mul, div, neg, lt, eq, le}
 use Rattle.laws.specs.Exact.{negative, sizeIn}
 use Rattle.laws.specs.WholeRoot.{wholeRoot}
 use Rattle.scalar.specs.Root.{root, rootUnits}
@@ -12,7 +12,7 @@ use Rattle.vector.specs.declared.vec3.Vec3.{Vec3}
 use Rattle.vector.specs.Vectors.{vec, zer, one, X, ONE}
 use Rattle.vector.specs.Operators.{sub, numberMul}
 use Rattle.vector.specs.Elements.{lesser, min, position, minPosition}
-use Rattle.vector.specs.Products.{dot}
+use Rattle.vector.specs.Products.{dot, length}
 use Rattle.vector.specs.Optics.{two, refractK, refract}
 use Rattle.vector.specs.Orthogonal.{anyOrthogonalVector, anyOrthonormalPair}
 
@@ -42,9 +42,15 @@ pub record Corners : Type 0 where
   along : refract X Y one ≡ X
   -- "u = 2 refusal 8": k is below zero.
   reflected : lt (refractK X Y two) zer ≡ true
+  -- document 02, b: "squares that vanish": (2^-75, 0, 0) has length 0, and its neighbour the root of 2^-149;
+  vanished : length (vec (f 0x1a000000) zer zer) ≡ zer
+  next-vanished : length (vec (f 0x1a000001) zer zer) ≡ f 0x1a3504f3
+  -- squares that overflow, and "infinities count": (2^64, 0, 0) is as long as (-infinity, 1, 1)
+  overflowed : length (vec (f 0x5f800000) zer zer) ≡ inf false
+  infinite : length (vec (f 0xff800000) one one) ≡ inf false
 
 pub corners : Corners
-unfolding min lesser minPosition position anyOrthogonalVector anyOrthonormalPair negative abs copysign signum refract refractK dot sub numberMul root rootUnits wholeRoot sizeIn round neg div Ieee.sub le lt eq add sum mul ofBits
+unfolding min lesser minPosition position anyOrthogonalVector anyOrthonormalPair negative abs copysign signum refract refractK length dot sub numberMul root rootUnits wholeRoot sizeIn round neg div Ieee.sub le lt eq add sum mul ofBits
 corners = record {
   min-of-nan = refl;
   min-with-nan = refl;
@@ -54,4 +60,8 @@ corners = record {
   pair = refl;
   along = refl;
   reflected = refl;
+  vanished = refl;
+  next-vanished = refl;
+  overflowed = refl;
+  infinite = refl;
 }

@@ -24,5 +24,6 @@ pub mod Homogeneous
 pub mod Asserts
 pub mod DirectionOf
 pub mod NumericLaws
+pub mod LongerParts
 pub mod Corners
 pub mod AssertLaws

@@ -1,6 +1,6 @@
 -- The size and the sign of a float, and the fraction that it is: each told by the other; and which sizes a format has. Assumes nothing.
 use mathlib.Core.Path.{_≡_, refl, sym, ap, _∙_, subst, subst₂}
-use mathlib.Core.Bool.{Bool, _&&_}
+use mathlib.Core.Bool.{Bool, true, false, _&&_}
 use Prim.Native.Nat.{ℕ, zero, suc, _+_, _-_, _*_, _/_, _%_, _^_, _≤_, _<_}
 use native.Mathlib.Nat.{le-refl, lt-of-le-of-lt, lt-of-lt-of-le, lt-of-not-le, not-le-of-lt, zero-mul, one-mul, mul-one, mul-assoc, mul-div-cancel, mul-lt-mul-of-pos-right, lt-of-mul-lt-mul-right, mul-comm, mul-right-comm}
 use native.Mathlib.Omega.{arith}
@@ -10,6 +10,7 @@ use lib.Pow.{pow-add, pow-pos, pow-mono, pow-lt, shl-lt}
 use lib.Ieee.{Float, nan, inf, fin, Format, prec, emax, low, up, down, fits}
 use lib.Ieee.Digits.{back}
 use lib.Ieee.Fits.{two, two-le-pos, and-l, and-r, down-pos}
+use lib.Ieee.Positive.{positive, positive-finite, value-pos}
 use lib.Ieee.Scale.{overflow, finite}
 use Rattle.laws.specs.Exact.{negative, sizeIn}
 use Rattle.laws.proofs.values.ValueLaws.{Value, value-unique}
@@ -87,6 +88,21 @@ pub value-of-size : (f : Format) (x : Float) → T (fits f x) → T (finite x) �
 value-of-size f x h t =
     let d = significand f x h t in
     subst (λ (N : ℕ). Value f x (negative x) N) (sym (size-of-value f x (negative x) (d .bits * 2 ^ d .exponent) (d .value) .0)) (d .value)
+
+-- one whose sign is clear
+pub unsigned-value : (f : Format) (x : Float) → T (fits f x) → T (finite x) → negative x ≡ false → Value f x false (sizeIn f x)
+unsigned-value f x h t p = subst (λ (s : Bool). Value f x s (sizeIn f x)) p (value-of-size f x h t)
+
+-- one above zero
+pub positive-sign : (x : Float) → T (positive x) → negative x ≡ false
+unfolding negative
+positive-sign nan p = refl
+positive-sign (inf s) p = absurd p
+positive-sign (fin true m e) p = absurd p
+positive-sign (fin false m e) p = refl
+
+pub positive-size : (f : Format) (x : Float) → T (fits f x) → T (positive x) → 0 < sizeIn f x
+positive-size f x h p = value-pos x (sizeIn f x) (2 ^ low f) p (pow-pos (low f)) (unsigned-value f x h (positive-finite x p) (positive-sign x p))
 
 pub size-below : (f : Format) (x : Float) → T (fits f x) → T (finite x) → sizeIn f x < overflow f
 size-below f x h t =

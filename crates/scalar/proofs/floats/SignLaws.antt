@@ -5,7 +5,7 @@ use mathlib.Core.Logic.{inl, inr}
 use Prim.Native.Nat.{ℕ, zero, suc, _*_, _%_, _^_, _<_, _≤_}
 use lib.Dec.{T, eqb, eqb-refl, lt→ltb}
 use lib.Arith.{le→nltb}
-use lib.Ieee.{Float, nan, inf, fin, binary32, up, down, odd, neg, level, ne, eq, div, ofBits, nanBits, isNan}
+use lib.Ieee.{Float, nan, inf, fin, Format, binary32, up, down, odd, neg, level, ne, eq, mul, div, ofBits, nanBits, isNan}
 use lib.Ieee.Exact.{HasValue}
 use lib.Ieee.Scale.{finite}
 use lib.Ieee.Bits.{nanBits-is, nanBits-above, is-true}
@@ -44,6 +44,21 @@ unfolding abs
 abs-value nan s a c h = h
 abs-value (inf t) s a c h = h
 abs-value (fin t m e) s a c h = (refl, h .1)
+
+pub abs-sign : (x : Float) → negative (abs x) ≡ false
+unfolding abs negative
+abs-sign nan = refl
+abs-sign (inf s) = refl
+abs-sign (fin s m e) = refl
+
+-- a number's square is that of its size
+pub abs-square : (f : Format) (x : Float) → mul f (abs x) (abs x) ≡ mul f x x
+unfolding abs mul
+abs-square f nan = refl
+abs-square f (inf true) = refl
+abs-square f (inf false) = refl
+abs-square f (fin true m e) = refl
+abs-square f (fin false m e) = refl
 
 pub copy : (x y : Float) (b : Bool) → negative y ≡ b → copysign x y ≡ cond b (neg (abs x)) (abs x)
 unfolding copysign

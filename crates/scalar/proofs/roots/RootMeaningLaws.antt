@@ -10,12 +10,12 @@ use lib.Pow.{pow-pos, pow-add, pow-mono, pow-lt}
 use lib.Count.{leadingZeros}
 use lib.Ieee.{Float, nan, inf, fin, binary32, fits}
 use lib.Ieee.Exact.{HasValue, units-val}
-use lib.Ieee.Positive.{first-pos, positive-of-value, positive-finite}
+use lib.Ieee.Positive.{first-pos, positive, positive-of-value, positive-finite}
 use lib.Ieee.Scale.{finite}
 use Rattle.laws.specs.Exact.{negative, sizeIn}
 use Rattle.laws.proofs.solvers.Ring.{var, lit, _⊕_, _⊗_}
 use Rattle.laws.proofs.solvers.RingNat.{ring}
-use Rattle.laws.proofs.values.SizeLaws.{Significand, significand, size-of-value, coarse}
+use Rattle.laws.proofs.values.SizeLaws.{Significand, significand, size-of-value, positive-sign, positive-size, coarse}
 use Rattle.scalar.specs.Root.{root, rootUnits}
 use Rattle.scalar.specs.RootParts.{NearRoot, Shift}
 use Rattle.scalar.specs.RootMeaning.{NearestRoot, radicand}
@@ -163,3 +163,7 @@ root-means x F N P S = record {
 
     square : 4 * radicand x ≡ 4 * R .m * (u * u)
     square = ap (λ (n : ℕ). 4 * n) (R .square) ∙ sym (mul-assoc 4 (R .m) (u * u))
+
+-- an f32 above zero
+pub positive-root : (x : Float) → T (fits binary32 x) → T (positive x) → NearestRoot x (root x)
+positive-root x F p = root-means x F (positive-finite x p) (positive-sign x p) (positive-size binary32 x F p)

@@ -14,14 +14,15 @@ use lib.Ieee.Positive.{positive, positive-finite, positive-of-value}
 use Rattle.laws.specs.Exact.{sizeIn}
 use Rattle.laws.specs.Within.{Within}
 use Rattle.laws.proofs.values.ValueLaws.{Value}
-use Rattle.laws.proofs.values.SizeLaws.{size-of-value}
+use Rattle.laws.proofs.values.SizeLaws.{size-of-value, positive-sign, positive-size}
 use Rattle.laws.proofs.operations.RoundedOperations.{minus}
 use Rattle.scalar.specs.Root.{rootUnits, root}
+use Rattle.scalar.proofs.roots.RootMeaningLaws.{positive-root}
 use Rattle.scalar.proofs.roots.RootErrorLaws.{root-near}
+use Rattle.scalar.proofs.roots.RootOrderLaws.{root-at-least}
 use Rattle.vector.specs.Vectors.{one}
 use Rattle.vector.proofs.values.SignedVectors.{D, E}
-use Rattle.vector.proofs.errors.RootOrderLaws.{root-at-least}
-use Rattle.vector.proofs.errors.ReciprocalLaws.{positive-sign, size-pos, nearest, root-value}
+use Rattle.vector.proofs.errors.ReciprocalLaws.{root-value}
 use Rattle.vector.proofs.errors.ReciprocalErrors.{recip-value, recip-near}
 
 -- ---- the root of a zero is the zero itself
@@ -73,7 +74,7 @@ root-of x s n F l h z = elim (eq-zero-or-pos n) [
           none = refl;
           near = absolute (sizeIn binary32 (root x) * sizeIn binary32 (root x)) (n * D) (E * D)
               (subst (λ (k : ℕ). Within (sizeIn binary32 (root x) * sizeIn binary32 (root x) * 2 ^ 24) (k * D * 2 ^ 24) (2 * (sizeIn binary32 (root x) * sizeIn binary32 (root x)))) (size-of-value binary32 x false n h .0)
-              (root-near x F (positive-finite x q) (positive-sign x q) (size-pos x F q)))
+              (root-near x F (positive-finite x q) (positive-sign x q) (positive-size binary32 x F q)))
               (le-trans (mul-le-mul-right D l) (lit≤ tt));
         }
 
@@ -113,5 +114,5 @@ reciprocal x n F h l =
 
     reaches : 7 * 2 ^ 146 ≤ sizeIn binary32 (root x)
     reaches =
-        root-at-least x (root x) most-of-one (7 * 2 ^ 146) (nearest x F q) (ofBits-fits binary32 0x3f600000) most-is
+        root-at-least x (root x) most-of-one (7 * 2 ^ 146) (positive-root x F q) (ofBits-fits binary32 0x3f600000) most-is
         (subst (λ (k : ℕ). 7 * 2 ^ 146 * (7 * 2 ^ 146) ≤ k * D) (sym (size-of-value binary32 x false n h .0)) (le-trans (lit≤ tt) (mul-le-mul-right D l)))

@@ -1,6 +1,6 @@
 -- The reciprocal of the root of an f32 that is not negative: finite and above zero exactly where the f32 is. Assumes nothing.
-use mathlib.Core.Path.{_≡_, refl, sym, ap, _∙_, subst}
-use mathlib.Core.Bool.{Bool, true, false, not, true≢false}
+use mathlib.Core.Path.{_≡_, refl, sym, ap, _∙_}
+use mathlib.Core.Bool.{true, false, not, true≢false}
 use Prim.Native.Nat.{ℕ, zero, suc, _*_, _^_, _≤_, _<_}
 use native.Mathlib.Nat.{le-trans, le-of-eq, le-of-lt, lt-of-lt-of-le, mul-le-mul-right, le-of-mul-le-mul-right, mul-right-comm, mul-assoc, mul-comm, mul-pos}
 use native.Mathlib.Omega.{arith}
@@ -10,19 +10,18 @@ use lib.Ieee.{Float, nan, inf, fin, binary32, up, down, fits, ofBits, round, div
 use lib.Ieee.Bits.{is-true, ofBits-fits}
 use lib.Ieee.Fits.{up-pos}
 use lib.Ieee.Order.{round-mono}
-use lib.Ieee.Positive.{positive, positive-finite, positive-of-value, value-pos, between}
-use lib.Ieee.Scale.{finite}
+use lib.Ieee.Positive.{positive, positive-finite, positive-of-value, between}
 use Rattle.laws.specs.Exact.{negative, sizeIn}
 use Rattle.laws.proofs.numbers.BoolLaws.{not-zero}
 use Rattle.laws.proofs.values.ValueLaws.{Value}
-use Rattle.laws.proofs.values.SizeLaws.{value-of-size, size-below}
+use Rattle.laws.proofs.values.SizeLaws.{positive-size, size-below}
 use Rattle.scalar.specs.Root.{root}
 use Rattle.scalar.specs.RootMeaning.{NearestRoot}
-use Rattle.scalar.proofs.roots.RootMeaningLaws.{root-means}
+use Rattle.scalar.proofs.roots.RootMeaningLaws.{positive-root}
+use Rattle.scalar.proofs.roots.RootOrderLaws.{root-at-least, root-at-most, nearest-value}
 use Rattle.vector.specs.Vectors.{one}
 use Rattle.vector.specs.Normalizing.{usable}
 use Rattle.vector.specs.NormalizingMeaning.{zeroInfiniteOrNan}
-use Rattle.vector.proofs.errors.RootOrderLaws.{root-at-least, root-at-most, nearest-value}
 
 -- ---- u / v is N / D: bounds of N are bounds of u and v
 u-most : (u v N D E : ℕ) → 0 < D → u * D ≡ N * v → N ≤ E * D → u ≤ E * v
@@ -60,13 +59,6 @@ recip-positive (fin false n d) N v h k =
     (omega (arith, v-most (n * up d) (down d) N (2 ^ 149) (2 ^ 74) (2 ^ 75) (pow-pos 74) (v .1) h refl)))
 
 -- ---- the root of an f32 above zero is such a y
-pub positive-sign : (x : Float) → T (positive x) → negative x ≡ false
-unfolding negative
-positive-sign nan p = refl
-positive-sign (inf s) p = absurd p
-positive-sign (fin true m e) p = absurd p
-positive-sign (fin false m e) p = refl
-
 -- 2 ^ -75 and 2 ^ 64
 abbrev least : Float
 least = ofBits binary32 0x1a000000
@@ -83,20 +75,14 @@ unfolding ofBits
 most-is = (refl, refl)
 
 module _ (x : Float) (F : T (fits binary32 x)) (p : T (positive x)) where
-  number : T (finite x)
-  number = positive-finite x p
-
-  pub size-pos : 0 < sizeIn binary32 x
-  size-pos = value-pos x (sizeIn binary32 x) (2 ^ 149) p (pow-pos 149) (subst (λ (s : Bool). Value binary32 x s (sizeIn binary32 x)) (positive-sign x p) (value-of-size binary32 x F number))
-
-  pub nearest : NearestRoot x (root x)
-  nearest = root-means x F number (positive-sign x p) size-pos
+  nearest : NearestRoot x (root x)
+  nearest = positive-root x F p
 
   pub root-least : 2 ^ 74 ≤ sizeIn binary32 (root x)
-  root-least = root-at-least x (root x) least (2 ^ 74) nearest (ofBits-fits binary32 0x1a000000) least-is (le-trans (lit≤ tt) (mul-le-mul-right (2 ^ 149) size-pos))
+  root-least = root-at-least x (root x) least (2 ^ 74) nearest (ofBits-fits binary32 0x1a000000) least-is (le-trans (lit≤ tt) (mul-le-mul-right (2 ^ 149) (positive-size binary32 x F p)))
 
   pub root-most : sizeIn binary32 (root x) ≤ 2 ^ 213
-  root-most = root-at-most x (root x) most (2 ^ 213) nearest (ofBits-fits binary32 0x5f800000) most-is (le-trans (mul-le-mul-right (2 ^ 149) (le-of-lt (size-below binary32 x F number))) (lit≤ tt))
+  root-most = root-at-most x (root x) most (2 ^ 213) nearest (ofBits-fits binary32 0x5f800000) most-is (le-trans (mul-le-mul-right (2 ^ 149) (le-of-lt (size-below binary32 x F (positive-finite x p)))) (lit≤ tt))
 
   pub root-value : Value binary32 (root x) false (sizeIn binary32 (root x))
   root-value = nearest-value x (root x) nearest

@@ -8,7 +8,7 @@ use lib.Ieee.{Float, binary32, fits, round, add, mul}
 use lib.Ieee.Scale.{finite}
 use Rattle.laws.specs.Exact.{negative, sizeIn}
 use Rattle.laws.proofs.values.ValueLaws.{Value}
-use Rattle.laws.proofs.values.SizeLaws.{size-of-value, value-of-size}
+use Rattle.laws.proofs.values.SizeLaws.{size-of-value, value-of-size, unsigned-value}
 use Rattle.laws.proofs.operations.OperationLaws.{mul-at, add-like-at}
 use Rattle.laws.proofs.operations.SumSigns.{unlike-self}
 use Rattle.laws.proofs.values.FiniteLaws.{first-finite, second-finite, root-finite}
@@ -46,7 +46,7 @@ module _ (a : Vec3) (t : T (finite (lengthSquared a))) where
   components-finite = record { finite-x = root-finite binary32 (a .x) x-finite; finite-y = root-finite binary32 (a .y) y-finite; finite-z = root-finite binary32 (a .z) z-finite }
 
 pub squared-value : (a : Vec3) → T (finite (lengthSquared a)) → Value binary32 (lengthSquared a) false (sizeIn binary32 (lengthSquared a))
-squared-value a t = subst (λ (s : Bool). Value binary32 (lengthSquared a) s (sizeIn binary32 (lengthSquared a))) (squared-sign a) (value-of-size binary32 (lengthSquared a) (squared-fits a) t)
+squared-value a t = unsigned-value binary32 (lengthSquared a) (squared-fits a) t (squared-sign a)
 
 -- ---- and its roundings
 square-value : (x : Float) → T (fits binary32 x) → T (finite (mul binary32 x x)) → Value binary32 (mul binary32 x x) false (rounded binary32 (sizeIn binary32 x * sizeIn binary32 x) D)

@@ -17,6 +17,7 @@ use Rattle.laws.proofs.values.ValueOrderLaws.{le-of-sizes, not-lt-of-sizes}
 use Rattle.scalar.specs.Root.{root}
 use Rattle.scalar.specs.RootMeaning.{NearestRoot, radicand}
 use Rattle.scalar.proofs.roots.RootMeaningLaws.{root-means}
+use Rattle.scalar.proofs.roots.RootOrderLaws.{root-from, root-to}
 use Rattle.vector.specs.declared.vec3.Vec3.{Vec3}
 use Rattle.vector.specs.Products.{length, lengthSquared}
 use Rattle.vector.specs.DirectionOf.{leastSquare, acceptable}
@@ -25,7 +26,6 @@ use Rattle.vector.specs.NumericLaws.{AboutOne, Refused7Never}
 use Rattle.vector.proofs.values.SignedVectors.{D, E, Exact, Reads, Norm, reads-finite}
 use Rattle.vector.proofs.errors.SquaredLengthLaws.{squared-fits, squared-sign}
 use Rattle.vector.proofs.units.UnitLaws.{least-value, law-u}
-use Rattle.vector.proofs.errors.RootOrderLaws.{root-from, root-to}
 use Rattle.vector.proofs.errors.LengthErrorLaws.{Long, length-near, long-bounds}
 
 -- ---- the bounds' sizes

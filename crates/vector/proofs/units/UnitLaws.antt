@@ -14,7 +14,7 @@ use Rattle.laws.specs.Exact.{negative, sizeIn}
 use Rattle.laws.specs.Within.{Within}
 use Rattle.laws.proofs.numbers.BoolLaws.{not-zero}
 use Rattle.laws.proofs.values.ValueLaws.{Value, value-finite}
-use Rattle.laws.proofs.values.SizeLaws.{size-of-value, value-of-size}
+use Rattle.laws.proofs.values.SizeLaws.{size-of-value, value-of-size, positive-size}
 use Rattle.laws.proofs.values.ValueOrderLaws.{not-lt-sizes}
 use Rattle.laws.proofs.operations.OperationLaws.{mul-at}
 use Rattle.laws.proofs.rounding.ErrorLaws.{rounded, rounded-value, rounded-error}
@@ -31,7 +31,6 @@ use Rattle.vector.proofs.values.SignedVectors.{D}
 use Rattle.vector.proofs.errors.SquaredLengthLaws.{squared-fits, squared-sign}
 use Rattle.vector.proofs.errors.SquaredLengthBounds.{Q, Rounds, in-x, in-y, in-z, squared-low, squared-high}
 use Rattle.vector.proofs.errors.SquaredLengthErrors.{squared-value, components-finite, length-parts}
-use Rattle.vector.proofs.errors.ReciprocalLaws.{size-pos}
 use Rattle.vector.proofs.errors.ReciprocalErrors.{recip-value, recip-near}
 use Rattle.vector.proofs.meanings.NormalizingLaws.{none-exactly}
 use Rattle.vector.proofs.units.UnitBounds.{product-low, product-high, part-small, length-low, length-high}
@@ -98,7 +97,7 @@ module _ (a : Vec3) (v : F32Vec a) (ok : T (acceptable a)) where
   r-near = recip-near l (squared-fits a) squared-positive
 
   m-near : Within (M * M * Q) (L * D * Q) (2 * (M * M))
-  m-near = root-near l (squared-fits a) number (squared-sign a) (size-pos l (squared-fits a) squared-positive)
+  m-near = root-near l (squared-fits a) number (squared-sign a) (positive-size binary32 l (squared-fits a) squared-positive)
 
   -- the exact squared length of a, times R²
   abbrev size : Float → ℕ
