@@ -20,6 +20,9 @@ pub trait Rust: Send {
 
     /// The number of the function or the command that a line calls.
     fn number(line: &[u8]) -> Option<u32>;
+
+    /// Looks at lines with the answers to them, the Rust's and the program's.
+    fn look_at(&mut self, _lines: &[u8], _rust: &[u8], _program: &[u8]) {}
 }
 
 /// A line, and the answers to it with their line feeds; an answer that the program did not give is empty.
@@ -105,12 +108,24 @@ fn check<R: Rust>(rust: &mut R, pieces: Receiver<Arc<Vec<u8>>>, mut answers: imp
         if right != program {
             comparison.note(R::number, &piece, &right, &program);
         }
+        rust.look_at(&piece, &right, &program);
     }
     comparison.spare = answers.read_to_end(&mut program)?;
     Ok(comparison)
 }
 
 impl Comparison {
+    /// Prints how the program ended if that was not as it should be, and says whether all is equal.
+    pub fn tell_end(&self) -> bool {
+        if self.spare > 0 {
+            println!("{} bytes behind the last answer", self.spare);
+        }
+        if !self.ended.success() {
+            println!("the program ended with {}", self.ended);
+        }
+        self.different == 0 && self.spare == 0 && self.ended.success()
+    }
+
     /// Counts the lines that are different, and keeps the first of them.
     fn note(&mut self, number: fn(&[u8]) -> Option<u32>, lines: &[u8], rust: &[u8], program: &[u8]) {
         let mut program = lines_of(program);
@@ -128,7 +143,8 @@ impl Comparison {
     }
 }
 
-fn lines_of(bytes: &[u8]) -> impl Iterator<Item = &[u8]> {
+/// The lines of the bytes, each with its line feed.
+pub fn lines_of(bytes: &[u8]) -> impl Iterator<Item = &[u8]> {
     bytes.split_inclusive(|&byte| byte == b'\n')
 }
 

@@ -56,7 +56,7 @@ fn answer(line: &[u8], out: &mut Vec<u8>) {
 }
 
 /// Reads the numbers of a line as far as there is room, and counts them all. None if the line is malformed.
-fn read(line: &[u8], numbers: &mut [u32]) -> Option<usize> {
+pub fn read(line: &[u8], numbers: &mut [u32]) -> Option<usize> {
     let mut count = 0;
     for field in line.split(|&byte| byte == b' ') {
         let n = decimal::read(field)?;

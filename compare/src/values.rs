@@ -95,7 +95,7 @@ pub fn around(d: &mut Draw, x: f64) -> u32 {
     near(d, bits)
 }
 
-fn either_sign(d: &mut Draw, bits: u32) -> u32 {
+pub fn either_sign(d: &mut Draw, bits: u32) -> u32 {
     bits ^ (d.word() & 0x8000_0000)
 }
 

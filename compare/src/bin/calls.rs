@@ -2,6 +2,7 @@
 
 use compare::calls::{called_by, Function, FUNCTIONS};
 use compare::check::{compare, Difference};
+use compare::command::{option, status, Outcome, PROBE};
 use compare::generate::Generator;
 use compare::{decimal, oracle};
 use std::env;
@@ -19,19 +20,11 @@ options:
   --only NUMBERS                                 these functions alone, as in 1-15,43
   --program PROGRAM                              another program than probe";
 
-/// Runs `probe`.
-const PROBE: &str = concat!(env!("CARGO_MANIFEST_DIR"), "/probe");
-
 /// How much of a line is printed.
 const WIDTH: usize = 200;
 
-type Outcome = Result<ExitCode, Box<dyn Error>>;
-
 fn main() -> ExitCode {
-    run(env::args().skip(1).collect()).unwrap_or_else(|error| {
-        eprintln!("compare: {error}");
-        ExitCode::from(2)
-    })
+    status(run(env::args().skip(1).collect()))
 }
 
 fn run(mut words: Vec<String>) -> Outcome {
@@ -49,16 +42,6 @@ fn run(mut words: Vec<String>) -> Outcome {
         [seed, count] => compare_and_tell(&program, Generator::new(seed.parse()?, functions), count.parse()?),
         _ => Err(USAGE.into()),
     }
-}
-
-/// Takes an option and its word out of the words.
-fn option(words: &mut Vec<String>, name: &str) -> Option<String> {
-    let place = words.iter().position(|word| word == name)?;
-    if place + 1 == words.len() {
-        return None;
-    }
-    words.remove(place);
-    Some(words.remove(place))
 }
 
 /// The functions of a list of numbers and ranges.
@@ -112,15 +95,9 @@ fn compare_and_tell(program: &str, generator: Generator, count: u64) -> Outcome 
     for difference in &comparison.first {
         tell(difference);
     }
-    if comparison.spare > 0 {
-        println!("{} bytes behind the answers to all calls", comparison.spare);
-    }
-    if !comparison.ended.success() {
-        println!("{program} ended with {}", comparison.ended);
-    }
+    let equal = comparison.tell_end();
     println!("{seconds:.1} s, {:.1} million calls a second", comparison.compared as f64 / seconds / 1e6);
     println!("{} calls compared, {} different", comparison.compared, comparison.different);
-    let equal = comparison.different == 0 && comparison.spare == 0 && comparison.ended.success();
     Ok(if equal { ExitCode::SUCCESS } else { ExitCode::FAILURE })
 }
 

@@ -1,10 +1,10 @@
 //! The command that compare/lines calls: runs a sitting on the plain sheet, tells what it reached, and compares the program `bench` with it.
 
 use compare::check::{compare, Comparison};
+use compare::command::{status, Outcome};
 use compare::sitting::Sitting;
 use compare::tally::Tally;
 use std::env;
-use std::error::Error;
 use std::iter;
 use std::process::{Command, ExitCode};
 
@@ -20,14 +20,9 @@ const SIZES: [usize; 18] = [1, 65_536, 45, 46, 47, 3, 4_095, 4_096, 4_097, 7, 91
 /// How much of a line is printed.
 const WIDTH: usize = 200;
 
-type Outcome = Result<ExitCode, Box<dyn Error>>;
-
 fn main() -> ExitCode {
     let words: Vec<String> = env::args().skip(1).collect();
-    run(&words.iter().map(String::as_str).collect::<Vec<_>>()).unwrap_or_else(|error| {
-        eprintln!("compare: {error}");
-        ExitCode::from(2)
-    })
+    status(run(&words.iter().map(String::as_str).collect::<Vec<_>>()))
 }
 
 fn run(words: &[&str]) -> Outcome {
@@ -55,14 +50,9 @@ fn tell(comparison: &Comparison) -> bool {
         println!("the Rust  {}", quoted(&difference.rust));
         println!("program   {}", quoted(&difference.program));
     }
-    if comparison.spare > 0 {
-        println!("{} bytes behind the answers to all lines", comparison.spare);
-    }
-    if !comparison.ended.success() {
-        println!("the program ended with {}", comparison.ended);
-    }
+    let equal = comparison.tell_end();
     println!("{} lines compared, {} different", comparison.compared, comparison.different);
-    comparison.different == 0 && comparison.spare == 0 && comparison.ended.success()
+    equal
 }
 
 fn quoted(line: &[u8]) -> String {

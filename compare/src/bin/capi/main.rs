@@ -4,11 +4,11 @@ mod linked;
 mod scalars;
 mod timing;
 
+use compare::command::{status, Outcome};
 use compare::library::{kept, lists, Account};
 use compare::tally::Tally;
 use linked::LIBRARY;
 use std::env;
-use std::error::Error;
 use std::process::ExitCode;
 
 const USAGE: &str = "usage:
@@ -20,13 +20,10 @@ const USAGE: &str = "usage:
 
 fn main() -> ExitCode {
     let words: Vec<String> = env::args().skip(1).collect();
-    run(&words.iter().map(String::as_str).collect::<Vec<_>>()).unwrap_or_else(|error| {
-        eprintln!("compare: {error}");
-        ExitCode::from(2)
-    })
+    status(run(&words.iter().map(String::as_str).collect::<Vec<_>>()))
 }
 
-fn run(words: &[&str]) -> Result<ExitCode, Box<dyn Error>> {
+fn run(words: &[&str]) -> Outcome {
     let mut account = Account::default();
     let sound = match *words {
         ["--every"] => {
