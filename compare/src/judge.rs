@@ -83,7 +83,7 @@ impl Judge {
 }
 
 impl Judged {
-    /// Which outcomes the Rust's answers show.
+    /// Which outcomes the pair and the Rust's answers show.
     fn outcomes(&self) -> [bool; OUTCOMES.len()] {
         let [first, second] = self.pair.map(|vector| vector.map(|component| f32::from_bits(component).abs()));
         let [first_squared, second_squared, first_length, second_length] = self.rust.map(f32::from_bits);

@@ -17,13 +17,13 @@ const LENGTH: u32 = 64;
 const SIZE: u32 = 0x7fff_ffff;
 const INFINITY: u32 = 0x7f80_0000;
 
-/// A kind of vectors. The signs and the NaNs that they come with do not count.
+/// A kind of vectors. Their signs are dropped, and a NaN counts as an infinity.
 type Kind = fn(&mut Draw) -> Vector;
 
 const KINDS: [Kind; 11] = [
     |d| [(); 3].map(|()| d.word()),
     |d| [(); 3].map(|()| vanishing(d)),
-    // squares that are subnormal
+    // squares that are subnormal, or just not
     |d| [(); 3].map(|()| with_exponent(d, 52, 64)),
     |d| [(); 3].map(|()| overflowing(d)),
     |d| [(); 3].map(|()| overflowing_sum(d)),
@@ -70,7 +70,7 @@ pub fn pair(d: &mut Draw) -> Pair {
     [first, second]
 }
 
-/// The sizes of a vector's components; a NaN counts as an infinity.
+/// The sizes of a vector's components, that of a NaN an infinity.
 fn sizes(vector: Vector) -> Vector {
     vector.map(|component| (component & SIZE).min(INFINITY))
 }
@@ -84,7 +84,7 @@ fn beside(d: &mut Draw, one: Vector, kind: Kind) -> Vector {
             let places = d.between(1, 7);
             [0, 1, 2].map(|i| up(one[i], (places >> i & 1) as u32))
         }
-        // larger by any number of steps, up to a factor of 16
+        // up to 2^25 steps larger, among normal numbers a factor of 16
         2 => one.map(|size| up(size, d.word() >> d.between(7, 31))),
         // another size in one place alone, or an infinity
         3 => {
@@ -141,7 +141,7 @@ fn with_infinities(d: &mut Draw) -> Vector {
     components
 }
 
-/// Components far apart in size; in half of the vectors the smaller squares decide how the sum is rounded.
+/// Components far apart in size; in half of the vectors the smaller squares are about the last bit of the largest one.
 fn apart(d: &mut Draw) -> Vector {
     let mut components = if d.once_in(2) {
         let high = d.between(14, 254);

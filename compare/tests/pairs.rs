@@ -1,4 +1,4 @@
-//! Pairs of vectors by a seed: each is as document 02 (b) has it, and each kind comes.
+//! Pairs of vectors by a seed: each is as document 02 (b) has it, and each sort of pair that is listed here has its share.
 
 use compare::calls::called_by;
 use compare::check::lines_of;
@@ -25,7 +25,7 @@ fn finite(sizes: Sizes) -> bool {
     sizes.iter().all(|x| x.is_finite())
 }
 
-/// Of a hundred pairs at least so many are of a kind.
+/// Of a hundred pairs at least so many are of a sort.
 type Share = (&'static str, usize, fn(Sizes, Sizes) -> bool);
 
 const SHARES: [Share; 14] = [
@@ -48,10 +48,10 @@ const SHARES: [Share; 14] = [
 ];
 
 #[test]
-fn each_kind_has_its_share() {
-    for (kind, share, is_of) in SHARES {
+fn each_sort_has_its_share() {
+    for (sort, share, is_of) in SHARES {
         let count = pairs(1, 20_000).filter(|&[first, second]| is_of(first, second)).count();
-        assert!(count >= share * 200, "{kind}: {count}");
+        assert!(count >= share * 200, "{sort}: {count}");
     }
 }
 

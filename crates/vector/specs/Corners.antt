@@ -1,4 +1,4 @@
--- The marked corners of document 01 that concern vectors, and those of document 02's b, computed from the definitions. f is the float of a bit pattern.
+-- The marked corners of document 01 that concern vectors, and cases of document 02's b, computed from the definitions. f is the float of a bit pattern.
 use mathlib.Core.Path.{_≡_, refl}
 use mathlib.Core.Bool.{true, false}
 use Prim.Native.Nat.{ℕ}
@@ -45,7 +45,7 @@ pub record Corners : Type 0 where
   -- document 02, b: "squares that vanish": (2^-75, 0, 0) has length 0, and its neighbour the root of 2^-149;
   vanished : length (vec (f 0x1a000000) zer zer) ≡ zer
   next-vanished : length (vec (f 0x1a000001) zer zer) ≡ f 0x1a3504f3
-  -- squares that overflow, and "infinities count": (2^64, 0, 0) is as long as (-infinity, 1, 1)
+  -- squares that overflow, and "Infinities count": (2^64, 0, 0) is as long as (-infinity, 1, 1)
   overflowed : length (vec (f 0x5f800000) zer zer) ≡ inf false
   infinite : length (vec (f 0xff800000) one one) ≡ inf false
 
