@@ -16,8 +16,10 @@ use Rattle.laws.proofs.numbers.CompareLaws.{equal-or-not}
 use Rattle.laws.proofs.rounding.ClosestLaws.{closest-near, near-of-best, even-unique}
 use Rattle.laws.proofs.numbers.SignedLaws.{zero-or-signed}
 use Rattle.laws.proofs.values.SizeLaws.{size-unique}
+use Rattle.laws.proofs.values.ValueOrderLaws.{same-bool}
 use Rattle.laws.proofs.rounding.RoundDetermined.{rounding-determined}
 use Rattle.scalar.specs.RootMeaning.{NearestRoot}
+use Rattle.scalar.specs.ExactRootMeaning.{Exactness}
 use Rattle.scalar.specs.FusedMeaning.{RoundedOnce, exactSum}
 use Rattle.scalar.specs.IntegralMeaning.{Whole, Truncated, Floored, RoundedEven}
 use Rattle.scalar.specs.RemainderMeaning.{Remainder}
@@ -29,6 +31,10 @@ root-determines : (x : Float) → Determines (NearestRoot x)
 root-determines x r t m l =
     size-unique binary32 r t (m .value) (l .value) (m .number) (l .number) (m .sign ∙ sym (l .sign))
     (le-antisymm (nearest-order x x r t m l (le-refl (sizeIn binary32 x))) (nearest-order x x t r l m (le-refl (sizeIn binary32 x))))
+
+-- ---- its mark: were one of two set, so would the other be
+exactness-determines : (x : Float) → Determines (Exactness x)
+exactness-determines x b c m l = same-bool b c (λ t. let s = m .some t in l .marked (s .0) (s .1)) (λ t. let s = l .some t in m .marked (s .0) (s .1))
 
 -- ---- the fused multiply-add: the exact sum is zero, or has a sign and a size that are rounded
 fused-determines : (a b c : Float) → Determines (RoundedOnce a b c)
@@ -93,6 +99,7 @@ rem-determines a b r t m l = size-unique binary32 r t (m .value) (l .value) (m .
 pub determined : Determined
 determined = record {
   root = root-determines;
+  exactness = exactness-determines;
   mul-add = fused-determines;
   trunc = trunc-determines;
   floor = floor-determines;

@@ -1,9 +1,11 @@
--- The root: Newton's steps, the rounded root, what it means, its error and its order.
+-- The root: Newton's steps, the rounded root, what it means, whether it is exact, its error and its order.
 pub mod NewtonLaws
 pub mod RootLaws
 pub mod RootPartsLaws
 pub mod RootCases
+pub mod ExactRootLaws
 pub mod RootMeaningLaws
 pub mod RootErrorLaws
 pub mod RootOrderLaws
+pub mod ExactMeaningLaws
 pub mod RootMonotoneLaws

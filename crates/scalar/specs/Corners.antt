@@ -1,11 +1,13 @@
--- The marked corners of document 01 that concern scalars, computed from the definitions. f is the float of a bit pattern.
+-- The marked corners of document 01 that concern scalars, and cases of document 02's c, computed from the definitions. f is the float of a bit pattern.
 use mathlib.Core.Path.{_≡_, refl}
+use mathlib.Core.Bool.{true, false}
 use Prim.Native.Nat.{ℕ}
 use lib.Ieee.{Float, binary32, ofBits, round, sum, add, sub, mul, div, rem, lt}
 use Rattle.laws.specs.Exact.{sizeIn}
 use Rattle.laws.specs.WholeRoot.{wholeRoot}
 use Rattle.scalar.specs.Sign.{abs}
 use Rattle.scalar.specs.Root.{root, rootUnits}
+use Rattle.scalar.specs.ExactRoot.{exactRoot}
 use Rattle.scalar.specs.Integral.{integral, roundEven}
 use Rattle.scalar.specs.Euclid.{divEuclid, remEuclid}
 use Rattle.scalar.specs.Fused.{fusedMultiplyAdd, mulAdd}
@@ -18,6 +20,20 @@ pub record Corners : Type 0 where
   root-of-25 : root (f 0x41c80000) ≡ f 0x40a00000
   root-of-2 : root (f 0x40000000) ≡ f 0x3fb504f3
   root-of-minus-0 : root (f 0x80000000) ≡ f 0x80000000
+  -- document 02, c: whether a root is exact; "Either zero has an exact root; infinity, NaN and anything below zero have none."
+  exact-of-25 : exactRoot (f 0x41c80000) ≡ true
+  exact-of-2 : exactRoot (f 0x40000000) ≡ false
+  exact-of-0 : exactRoot (f 0) ≡ true
+  exact-of-minus-0 : exactRoot (f 0x80000000) ≡ true
+  exact-of-infinity : exactRoot (f 0x7f800000) ≡ false
+  exact-of-minus-infinity : exactRoot (f 0xff800000) ≡ false
+  exact-of-nan : exactRoot (f 0x7fc00000) ≡ false
+  exact-of-minus-25 : exactRoot (f 0xc1c80000) ≡ false
+  -- the square of a rounded root may round to the argument, and the root is not exact: of 2^-149, the least such, and of 3
+  exact-of-least : exactRoot (f 1) ≡ false
+  square-of-least : mul binary32 (root (f 1)) (root (f 1)) ≡ f 1
+  exact-of-3 : exactRoot (f 0x40400000) ≡ false
+  square-of-3 : mul binary32 (root (f 0x40400000)) (root (f 0x40400000)) ≡ f 0x40400000
   -- "`round` 0.5, 1.5, 2.5, -0.5: 0, 2, 2, -0."
   round-half : roundEven (f 0x3f000000) ≡ f 0
   round-3-halves : roundEven (f 0x3fc00000) ≡ f 0x40000000
@@ -31,11 +47,23 @@ pub record Corners : Type 0 where
   rounded-twice : add binary32 (mul binary32 (f 0x3f800800) (f 0x3f800800)) (f 0xbf801000) ≡ f 0
 
 pub corners : Corners
-unfolding root rootUnits wholeRoot sizeIn integral remEuclid divEuclid abs fusedMultiplyAdd round rem div lt sub add sum mul ofBits
+unfolding exactRoot root rootUnits wholeRoot sizeIn integral remEuclid divEuclid abs fusedMultiplyAdd round rem div lt sub add sum mul ofBits
 corners = record {
   root-of-25 = refl;
   root-of-2 = refl;
   root-of-minus-0 = refl;
+  exact-of-25 = refl;
+  exact-of-2 = refl;
+  exact-of-0 = refl;
+  exact-of-minus-0 = refl;
+  exact-of-infinity = refl;
+  exact-of-minus-infinity = refl;
+  exact-of-nan = refl;
+  exact-of-minus-25 = refl;
+  exact-of-least = refl;
+  square-of-least = refl;
+  exact-of-3 = refl;
+  square-of-3 = refl;
   round-half = refl;
   round-3-halves = refl;
   round-5-halves = refl;

@@ -1,13 +1,15 @@
--- No meaning of this crate leaves a choice: for any arguments, two answers with the same meaning are the same float.
+-- No meaning of this crate leaves a choice: for any arguments, two answers with the same meaning are the same.
 use lib.Ieee.{Float}
 use Rattle.laws.specs.Determines.{Determines}
 use Rattle.scalar.specs.RootMeaning.{NearestRoot}
+use Rattle.scalar.specs.ExactRootMeaning.{Exactness}
 use Rattle.scalar.specs.FusedMeaning.{RoundedOnce}
 use Rattle.scalar.specs.IntegralMeaning.{Truncated, Floored, RoundedEven}
 use Rattle.scalar.specs.RemainderMeaning.{Remainder}
 
 pub record Determined : Type 0 where
   pub root : (x : Float) → Determines (NearestRoot x)
+  pub exactness : (x : Float) → Determines (Exactness x)
   pub mul-add : (a b c : Float) → Determines (RoundedOnce a b c)
   pub trunc : (x : Float) → Determines (Truncated x)
   pub floor : (x : Float) → Determines (Floored x)

@@ -2,6 +2,8 @@
 pub mod Sign
 pub mod Root
 pub mod RootMeaning
+pub mod ExactRoot
+pub mod ExactRootMeaning
 pub mod RootParts
 pub mod Fused
 pub mod FusedMeaning

@@ -1,8 +1,9 @@
-// The rounded root: a first root from a table, two steps of Newton's, one comparison of whole squares.
+// The rounded root, by a first root from a table, two steps of Newton's and one comparison of whole squares; and whether it is exact.
 ghost use mathlib.Core.Path.{_≡_};
 ghost use Prim.Native.Nat.{_+_, _*_, _/_, _^_, _≤_, _<_};
 ghost use lib.Ieee as Ieee;
 ghost use Rattle.scalar.specs.Root as Root;
+ghost use Rattle.scalar.specs.ExactRoot as ExactRoot;
 ghost use Rattle.laws.specs.WholeRoot.{WholeRoot};
 ghost use Rattle.scalar.specs.RootParts.{Positive, Shift, NearRoot, AboveRoot};
 use crate::bits::Parts;
@@ -25,6 +26,42 @@ pub fn sqrt(x: f32) -> f32
         }
     }
     other_root(x)
+}
+
+// A root, and whether it is exact: whether its square is the argument, without rounding.
+pub struct MarkedRoot {
+    pub root: f32,
+    pub exact: bool,
+}
+
+// The rounded root, and whether it is exact.
+pub fn sqrt_and_exactness(x: f32) -> MarkedRoot
+    ensures { λ r. ⌜ r ≡ ExactRoot.rootAndExactness x ⌝ }
+{
+    let root = sqrt(x);
+    MarkedRoot {
+        root: root,
+        exact: is_exact(x, root),
+    }
+}
+
+// Whether the rounded root of x is exact. Its significand m is the whole number nearest to the root of x's radicand n, and m * m is n exactly where the root's square is x.
+fn is_exact(x: f32, root: f32) -> bool
+    requires { ⌜ root ≡ Root.root x ⌝ }
+    ensures { λ r. ⌜ r ≡ ExactRoot.exactRoot x ⌝ }
+{
+    let Parts::Fin(s, q, k) = decode(x) else {
+        return false; // infinity or NaN
+    };
+    if q == 0 {
+        return true; // either zero
+    }
+    if s {
+        return false; // below zero
+    }
+    let n = (q as u64) << shift_of(q, k); // x is n * 4 ^ h / 2 ^ 298 for some h (RootPartsLaws.radicand-is)
+    let m = (f32::to_bits(root) % 0x80_0000 + 0x80_0000) as u64; // a root above zero is normal
+    m * m == n // ExactRootLaws.significand-exact
 }
 
 // The rounded root of any float: of zeros, infinities, what is below zero, and subnormals.

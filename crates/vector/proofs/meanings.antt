@@ -1,4 +1,4 @@
--- What the definitions come to: masks, components, order, positions, clamps, signs, orthogonal vectors, where there is no direction, and longer parts.
+-- What the definitions come to: masks, components, order, positions, clamps, signs, orthogonal vectors, where there is no direction, longer parts, and the marks of lengths.
 pub mod MaskLaws
 pub mod IndexedLaws
 pub mod OrderLaws
@@ -8,3 +8,4 @@ pub mod SignsLaws
 pub mod NormalizingLaws
 pub mod OrthogonalLaws
 pub mod LongerPartsLaws
+pub mod ExactLengthLaws

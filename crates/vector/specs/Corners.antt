@@ -1,4 +1,4 @@
--- The marked corners of document 01 that concern vectors, and cases of document 02's b, computed from the definitions. f is the float of a bit pattern.
+-- The marked corners of document 01 that concern vectors, and cases of document 02's b and c, computed from the definitions. f is the float of a bit pattern.
 use mathlib.Core.Path.{_≡_, refl}
 use mathlib.Core.Bool.{true, false}
 use Prim.Native.Nat.{ℕ}
@@ -7,12 +7,13 @@ use lib.Ieee.{Float, nan, inf, binary32, ofBits, round, sum, add, mul, div, neg,
 use Rattle.laws.specs.Exact.{negative, sizeIn}
 use Rattle.laws.specs.WholeRoot.{wholeRoot}
 use Rattle.scalar.specs.Root.{root, rootUnits}
+use Rattle.scalar.specs.ExactRoot.{exactRoot, rootAndExactness}
 use Rattle.scalar.specs.Sign.{abs, copysign, signum}
 use Rattle.vector.specs.declared.vec3.Vec3.{Vec3}
-use Rattle.vector.specs.Vectors.{vec, zer, one, X, ONE}
+use Rattle.vector.specs.Vectors.{vec, zer, one, ZERO, X, ONE}
 use Rattle.vector.specs.Operators.{sub, numberMul}
 use Rattle.vector.specs.Elements.{lesser, min, position, minPosition}
-use Rattle.vector.specs.Products.{dot, length}
+use Rattle.vector.specs.Products.{dot, length, lengthAndExactness, distanceAndExactness}
 use Rattle.vector.specs.Optics.{two, refractK, refract}
 use Rattle.vector.specs.Orthogonal.{anyOrthogonalVector, anyOrthonormalPair}
 
@@ -48,9 +49,16 @@ pub record Corners : Type 0 where
   -- squares that overflow, and "Infinities count": (2^64, 0, 0) is as long as (-infinity, 1, 1)
   overflowed : length (vec (f 0x5f800000) zer zer) ≡ inf false
   infinite : length (vec (f 0xff800000) one one) ≡ inf false
+  -- document 02, c: (3, 4, 0) has the exact root 5, (1, 1, 0) none; from (4096, 1, 0) to the origin it is 4096, exactly, since "the sum of squares before it may have been rounded"
+  whole : lengthAndExactness (vec (f 0x40400000) (f 0x40800000) zer) ≡ record { root = f 0x40a00000; exact = true }
+  not-whole : lengthAndExactness (vec one one zer) ≡ record { root = f 0x3fb504f3; exact = false }
+  sum-rounded : distanceAndExactness (vec (f 0x45800000) one zer) ZERO ≡ record { root = f 0x45800000; exact = true }
+  -- "infinity, NaN .. have none"
+  mark-of-infinity : lengthAndExactness (vec (f 0x5f800000) zer zer) ≡ record { root = inf false; exact = false }
+  mark-of-nan : lengthAndExactness NAN ≡ record { root = nan; exact = false }
 
 pub corners : Corners
-unfolding min lesser minPosition position anyOrthogonalVector anyOrthonormalPair negative abs copysign signum refract refractK length dot sub numberMul root rootUnits wholeRoot sizeIn round neg div Ieee.sub le lt eq add sum mul ofBits
+unfolding min lesser minPosition position anyOrthogonalVector anyOrthonormalPair negative abs copysign signum refract refractK length lengthAndExactness distanceAndExactness dot sub numberMul exactRoot rootAndExactness root rootUnits wholeRoot sizeIn round neg div Ieee.sub le lt eq add sum mul ofBits
 corners = record {
   min-of-nan = refl;
   min-with-nan = refl;
@@ -64,4 +72,9 @@ corners = record {
   next-vanished = refl;
   overflowed = refl;
   infinite = refl;
+  whole = refl;
+  not-whole = refl;
+  sum-rounded = refl;
+  mark-of-infinity = refl;
+  mark-of-nan = refl;
 }

@@ -25,5 +25,6 @@ pub mod Asserts
 pub mod DirectionOf
 pub mod NumericLaws
 pub mod LongerParts
+pub mod ExactLengths
 pub mod Corners
 pub mod AssertLaws

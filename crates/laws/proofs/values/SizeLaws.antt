@@ -22,6 +22,10 @@ size-of-value f nan s N h = absurd h
 size-of-value f (inf t) s N h = absurd h
 size-of-value f (fin t m e) s N h = (ap (λ (x : ℕ). x / down e) (h .1) ∙ mul-div-cancel N (down-pos e), h .0)
 
+-- either zero
+pub zero-size : (f : Format) (s : Bool) (e : ℤ) → sizeIn f (fin s 0 e) ≡ 0
+zero-size f s e = size-of-value f (fin s 0 e) s 0 (refl, ap (λ (n : ℕ). n * 2 ^ low f) (zero-mul (up e)) ∙ zero-mul (2 ^ low f) ∙ sym (zero-mul (down e))) .0
+
 -- ---- the size of a finite value of the format: a significand below 2 ^ prec, shifted left
 pow-below : (i j : ℕ) → 2 ^ i < 2 ^ j → i < j
 pow-below i j h = lt-of-not-le (λ (g : j ≤ i). not-le-of-lt h (pow-mono g))

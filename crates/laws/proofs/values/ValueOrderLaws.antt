@@ -14,7 +14,7 @@ use Rattle.laws.proofs.operations.SumSame.{order-scale}
 use Rattle.laws.proofs.operations.RoundedOperations.{minus}
 
 -- two tests that pass together are one
-same-bool : (p q : Bool) → (T p → T q) → (T q → T p) → p ≡ q
+pub same-bool : (p q : Bool) → (T p → T q) → (T q → T p) → p ≡ q
 same-bool true true f g = refl
 same-bool true false f g = absurd (f tt)
 same-bool false true f g = absurd (g tt)

@@ -4,7 +4,7 @@ use mathlib.Core.Bool.{Bool, true, false, cond}
 use Prim.Native.Nat.{ℕ, _*_, _/_, _^_, _<_}
 use native.Mathlib.Nat.{lt-irrefl, mul-pos, mul-div-cancel}
 use lib.Dec.{T, eqb, eqb→eq}
-use lib.IntN.{pos}
+use lib.IntN.{ℤ, pos}
 use lib.Pow.{pow-pos}
 use lib.Ieee.{Float, nan, inf, fin, binary32, up, down, odd}
 use lib.Ieee.Exact.{HasValue}
@@ -30,7 +30,12 @@ pub root-zero : (x : Float) (s : Bool) (q k : ℕ) → x ≡ odd 24 s q k 149 �
 unfolding root odd
 root-zero x s q k e h = let z : x ≡ fin s 0 (pos 0) = e ∙ ap (λ (n : ℕ). odd 24 s n k 149) h in z ∙ sym (ap root z)
 
--- a finite value that is not zero
+-- ---- a finite value that is not zero
+pub some-significand : (t : Bool) (m : ℕ) (e : ℤ) (s : Bool) (N : ℕ) → 0 < N → HasValue (fin t m e) s N (2 ^ 149) → m ≡ 0 → ⊥
+some-significand t m e s N h v z =
+    let p : 0 < m * up e * 2 ^ 149 = subst (λ (n : ℕ). 0 < n) (sym (v .1)) (mul-pos h (down-pos e)) in
+    lt-irrefl 0 (subst (λ (n : ℕ). 0 < n) z (first-pos m (up e) (first-pos (m * up e) (2 ^ 149) p)))
+
 pub root-value : (x : Float) (s : Bool) (N : ℕ) → 0 < N → HasValue x s N (2 ^ 149) → root x ≡ cond s nan (rootUnits N)
 unfolding root sizeIn
 root-value nan s N h v = absurd v
@@ -40,14 +45,9 @@ root-value (fin t m e) s N h v =
     ∙ ap (λ (b : Bool). cond b nan (rootUnits (sizeIn binary32 (fin t m e)))) (v .0)
     ∙ ap (λ (n : ℕ). cond s nan (rootUnits n)) (ap (λ (n : ℕ). n / down e) (v .1) ∙ mul-div-cancel N (down-pos e))
   where
-    none : m ≡ 0 → ⊥
-    none z =
-        let p : 0 < m * up e * 2 ^ 149 = subst (λ (n : ℕ). 0 < n) (sym (v .1)) (mul-pos h (down-pos e)) in
-        lt-irrefl 0 (subst (λ (n : ℕ). 0 < n) z (first-pos m (up e) (first-pos (m * up e) (2 ^ 149) p)))
-
     go : (b : Bool) → (T b → m ≡ 0)
         → cond b (fin t m e) (cond t nan (rootUnits (sizeIn binary32 (fin t m e)))) ≡ cond t nan (rootUnits (sizeIn binary32 (fin t m e)))
-    go true f = absurd (none (f tt))
+    go true f = absurd (some-significand t m e s N h v (f tt))
     go false f = refl
 
 root-some : (x : Float) (s : Bool) (q k : ℕ) → x ≡ odd 24 s q k 149 → 0 < q → root x ≡ cond s nan (rootUnits (q * 2 ^ k))

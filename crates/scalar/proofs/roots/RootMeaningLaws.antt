@@ -3,13 +3,13 @@ use mathlib.Core.Path.{_≡_, refl, sym, ap, _∙_, subst}
 use mathlib.Core.Bool.{Bool, true, false, not}
 use mathlib.Core.List.{[], _∷_}
 use Prim.Native.Nat.{ℕ, _+_, _-_, _*_, _%_, _^_, _≤_, _<_}
-use native.Mathlib.Nat.{le-trans, le-of-eq, le-of-lt, lt-of-lt-of-le, lt-of-le-of-lt, lt-of-not-le, not-le-of-lt, lt-irrefl, mul-le-mul, mul-le-mul-right, lt-of-mul-lt-mul-right, mul-assoc, mul-comm, mul-pos, le-mul-of-pos-right}
+use native.Mathlib.Nat.{le-trans, le-of-eq, le-of-lt, lt-of-lt-of-le, lt-of-le-of-lt, lt-irrefl, mul-le-mul, mul-le-mul-right, lt-of-mul-lt-mul-right, mul-assoc, mul-pos}
 use native.Mathlib.Omega.{arith}
 use lib.Dec.{T, leb, leb→le, nleb→lt, lit<}
-use lib.Pow.{pow-pos, pow-add, pow-mono, pow-lt}
+use lib.Pow.{pow-pos, pow-add}
 use lib.Count.{leadingZeros}
 use lib.Ieee.{Float, nan, inf, fin, binary32, fits}
-use lib.Ieee.Exact.{HasValue, units-val}
+use lib.Ieee.Exact.{HasValue}
 use lib.Ieee.Positive.{first-pos, positive, positive-of-value, positive-finite}
 use lib.Ieee.Scale.{finite}
 use Rattle.laws.specs.Exact.{negative, sizeIn}
@@ -21,7 +21,7 @@ use Rattle.scalar.specs.RootParts.{NearRoot, Shift}
 use Rattle.scalar.specs.RootMeaning.{NearestRoot, radicand}
 use Rattle.laws.proofs.numbers.WholeRootLaws.{square-mono}
 use Rattle.scalar.proofs.roots.RootLaws.{scaled-le, scaled-lt, scaled-gt, half-below}
-use Rattle.scalar.proofs.roots.RootPartsLaws.{half, shift-is, nearest-root, radicand-is, root-units, units-fit}
+use Rattle.scalar.proofs.roots.RootPartsLaws.{half, shift-is, radicand-is, units-fit, ShiftedRoot, shifted-root}
 use Rattle.scalar.proofs.roots.RootCases.{root-value}
 
 -- ---- p + 1 is nearest to the root of m; u times it is compared with a number Y that is a multiple of u where it is large
@@ -86,13 +86,13 @@ pub record Rooted (x : Float) : Type 0 where
 rooted : (x : Float) (q k : ℕ) → 0 < q → q < 2 ^ 24 → q * 2 ^ k < 2 ^ 277 → HasValue x false (q * 2 ^ k) (2 ^ 149) → Rooted x
 rooted x q k some few under v = record {
   m = q * 2 ^ a;
-  p = p;
+  p = found .p;
   h = half k a;
-  near = near .1;
+  near = found .near;
   least = shift .low;
   square = ap (λ (n : ℕ). n * 2 ^ 149) (size-of-value binary32 x false (q * 2 ^ k) v .0) ∙ radicand-is q k a shift;
   fit = subst (λ (y : Float). T (fits binary32 y)) (sym is) (units-fit (q * 2 ^ k));
-  value = subst (λ (y : Float). HasValue y false ((p + 1) * 2 ^ half k a) (2 ^ 149)) (sym (is ∙ root-units q k a (p + 1) under shift (near .1))) (units-val binary32 false (p + 1) (half k a) small);
+  value = subst (λ (y : Float). HasValue y false ((found .p + 1) * 2 ^ half k a) (2 ^ 149)) (sym is) (found .value);
 }
   where
     a : ℕ
@@ -101,23 +101,11 @@ rooted x q k some few under v = record {
     shift : Shift q k a
     shift = shift-is q k some few
 
-    near : (p : ℕ) × NearRoot (q * 2 ^ a) (p + 1)
-    near = nearest-root (q * 2 ^ a) (shift .low) (shift .high)
-
-    p : ℕ
-    p = near .0
+    found : ShiftedRoot q k a
+    found = shifted-root q k a some under shift
 
     is : root x ≡ rootUnits (q * 2 ^ k)
     is = root-value x false (q * 2 ^ k) (mul-pos some (pow-pos k)) v
-
-    short : k < 277
-    short = lt-of-not-le (λ (g : 277 ≤ k). not-le-of-lt under (le-trans (pow-mono g) (le-trans (le-mul-of-pos-right (2 ^ k) some) (le-of-eq (mul-comm (2 ^ k) q)))))
-
-    less : (k a : ℕ) → k < 277 → 23 ≤ a → 24 + half k a < 277
-    less k a h l = omega arith
-
-    small : (p + 1) * 2 ^ half k a < 2 ^ 277
-    small = lt-of-le-of-lt (mul-le-mul-right (2 ^ half k a) (near .1 .most)) (lt-of-le-of-lt (le-of-eq (sym (pow-add 2 24 (half k a)))) (pow-lt (less k a short (shift .least))))
 
 pub rooted-at : (x : Float) → T (fits binary32 x) → T (finite x) → negative x ≡ false → 0 < sizeIn binary32 x → Rooted x
 rooted-at x F N P S =

@@ -1,18 +1,18 @@
 -- The root keeps the order of the f32 numbers from zero up, infinity being the last of them. Of the root nothing is used but what it means (RootMeaning) and its
 -- rule for zero and infinity. Assumes nothing.
-use mathlib.Core.Path.{_≡_, refl, sym, ap, _∙_}
+use mathlib.Core.Path.{_≡_, refl}
 use mathlib.Core.Bool.{false}
 use Prim.Native.Nat.{ℕ, zero, suc, _+_, _*_, _^_, _<_}
-use native.Mathlib.Nat.{zero-mul, mul-pos}
+use native.Mathlib.Nat.{mul-pos}
 use native.Mathlib.Omega.{arith}
 use lib.IntN.{ℤ}
 use lib.Dec.{T, lt→ltb}
 use lib.Pow.{pow-pos}
-use lib.Ieee.{Float, fin, binary32, up, down, fits}
+use lib.Ieee.{Float, fin, binary32, fits}
 use lib.Ieee.Scale.{finite}
 use Rattle.laws.specs.Exact.{negative, sizeIn}
 use Rattle.laws.proofs.values.FiniteLaws.{finite-number}
-use Rattle.laws.proofs.values.SizeLaws.{size-of-value, unsigned-value}
+use Rattle.laws.proofs.values.SizeLaws.{zero-size, unsigned-value}
 use Rattle.laws.proofs.values.ValueOrderLaws.{le-sizes, le-of-sizes}
 use Rattle.laws.proofs.values.AscendingLaws.{Ascends, fractions, below-infinity, infinities, ascends, ascends-le, to-infinity}
 use Rattle.scalar.specs.Root.{root}
@@ -36,13 +36,10 @@ zero-nearest z F N P S = record {
     some : (y : ℕ) → 0 < y → 0 < (0 + y) * (0 + y)
     some y h = omega (arith, mul-pos h h)
 
-zero-size : (e : ℤ) → sizeIn binary32 (fin false zero e) ≡ 0
-zero-size e = size-of-value binary32 (fin false zero e) false 0 (refl, ap (λ (n : ℕ). n * 2 ^ 149) (zero-mul (up e)) ∙ zero-mul (2 ^ 149) ∙ sym (zero-mul (down e))) .0
-
 -- ---- so every finite f32 from zero up has its nearest root
 nearest : (m : ℕ) (e : ℤ) → T (fits binary32 (fin false m e)) → NearestRoot (fin false m e) (root (fin false m e))
 unfolding root negative
-nearest zero e F = zero-nearest (fin false zero e) F tt refl (zero-size e)
+nearest zero e F = zero-nearest (fin false zero e) F tt refl (zero-size binary32 false e)
 nearest (suc m) e F = positive-root (fin false (suc m) e) F (lt→ltb 0 (suc m) (omega arith))
 
 pub root-ascends : {x y : Float} → T (fits binary32 x) → T (fits binary32 y) → Ascends x y → Ascends (root x) (root y)

@@ -1,8 +1,8 @@
 -- Nearest roots keep the order. Of a root nothing is used but what it means, that no other f32 is as near (RootMeaning). Assumes nothing.
-use mathlib.Core.Path.{_≡_, ap, subst}
+use mathlib.Core.Path.{_≡_, sym, ap, subst}
 use mathlib.Core.Bool.{false}
 use Prim.Native.Nat.{ℕ, _+_, _*_, _^_, _≤_, _<_}
-use native.Mathlib.Nat.{add-comm, mul-le-mul-right}
+use native.Mathlib.Nat.{le-of-eq, le-antisymm, add-comm, mul-le-mul-right}
 use native.Mathlib.Omega.{arith}
 use lib.Dec.{T}
 use lib.Pow.{pow-pos}
@@ -38,23 +38,38 @@ nearest-order x y r s p q h = in-order (sizeIn binary32 r) (sizeIn binary32 s) (
 pub nearest-value : (x r : Float) → NearestRoot x r → Value binary32 r false (sizeIn binary32 r)
 nearest-value x r near = unsigned-value binary32 r (near .value) (near .number) (near .sign)
 
--- ---- the root r of x, and an f32 y of the size n
-module _ (x r y : Float) (n : ℕ) (near : NearestRoot x r) (fit : T (fits binary32 y)) (h : Value binary32 y false n) where
+-- ---- the root r of x, and the size of an f32 y
+module _ (x r y : Float) (near : NearestRoot x r) (fit : T (fits binary32 y)) where
   abbrev R : ℕ
   R = sizeIn binary32 r
 
+  abbrev Y : ℕ
+  Y = sizeIn binary32 y
+
+  size-at-least : Y * Y ≤ radicand x → Y ≤ R
+  size-at-least l = in-order Y R (Y * Y) (radicand x) l (own-lower Y R) (near .upper y fit)
+
+  size-at-most : radicand x ≤ Y * Y → R ≤ Y
+  size-at-most l = in-order R Y (radicand x) (Y * Y) l (near .lower y fit) (own-upper Y R)
+
+  -- where the root is an f32, it is that one
+  pub size-of-square : Y * Y ≡ radicand x → R ≡ Y
+  size-of-square e = le-antisymm (size-at-most (le-of-eq (sym e))) (size-at-least (le-of-eq e))
+
+-- ---- the same of an f32 y of the size n
+module _ (x r y : Float) (n : ℕ) (near : NearestRoot x r) (fit : T (fits binary32 y)) (h : Value binary32 y false n) where
   size : sizeIn binary32 y ≡ n
   size = size-of-value binary32 y false n h .0
 
-  pub root-at-least : n * n ≤ radicand x → n ≤ R
-  root-at-least l = in-order n R (n * n) (radicand x) l (own-lower n R) (subst (λ (m : ℕ). R < m → 4 * radicand x < (R + m) * (R + m)) size (near .upper y fit))
+  pub root-at-least : n * n ≤ radicand x → n ≤ sizeIn binary32 r
+  root-at-least l = subst (λ (m : ℕ). m ≤ sizeIn binary32 r) size (size-at-least x r y near fit (subst (λ (m : ℕ). m * m ≤ radicand x) (sym size) l))
 
-  pub root-at-most : radicand x ≤ n * n → R ≤ n
-  root-at-most l = in-order R n (radicand x) (n * n) l (subst (λ (m : ℕ). m < R → (R + m) * (R + m) < 4 * radicand x) size (near .lower y fit)) (own-upper n R)
+  pub root-at-most : radicand x ≤ n * n → sizeIn binary32 r ≤ n
+  root-at-most l = subst (λ (m : ℕ). sizeIn binary32 r ≤ m) size (size-at-most x r y near fit (subst (λ (m : ℕ). radicand x ≤ m * m) (sym size) l))
 
-  -- the same in f32
+  -- in f32
   pub root-from : n * n ≤ radicand x → T (le y r)
-  root-from l = le-of-sizes y r n R (2 ^ 149) (pow-pos 149) h (nearest-value x r near) (root-at-least l)
+  root-from l = le-of-sizes y r n (sizeIn binary32 r) (2 ^ 149) (pow-pos 149) h (nearest-value x r near) (root-at-least l)
 
   pub root-to : radicand x ≤ n * n → T (le r y)
-  root-to l = le-of-sizes r y R n (2 ^ 149) (pow-pos 149) (nearest-value x r near) h (root-at-most l)
+  root-to l = le-of-sizes r y (sizeIn binary32 r) n (2 ^ 149) (pow-pos 149) (nearest-value x r near) h (root-at-most l)

@@ -3,12 +3,13 @@
 use mathlib.Core.Path.{_≡_, refl, sym, ap, _∙_, subst}
 use mathlib.Core.Bool.{Bool, true, false, not}
 use Prim.Native.Nat.{ℕ, zero, suc, _+_, _-_, _*_, _/_, _%_, _^_, _≤_, _<_}
-use native.Mathlib.Nat.{le-trans, le-of-eq, lt-of-lt-of-le, lt-of-not-le, not-le-of-lt, mul-assoc, mul-le-mul-right, mul-lt-mul-of-pos-right, mod-eq-of-lt}
+use native.Mathlib.Nat.{le-trans, le-of-eq, lt-of-lt-of-le, lt-of-le-of-lt, lt-of-not-le, not-le-of-lt, le-mul-of-pos-right, mul-comm, mul-assoc, mul-le-mul-right, mul-lt-mul-of-pos-right, mod-eq-of-lt}
 use native.Mathlib.Omega.{arith}
 use lib.Dec.{T, ltb, ltb→lt, nltb→le, lit≤}
-use lib.Pow.{pow-pos, pow-add, pow-mono}
+use lib.Pow.{pow-pos, pow-add, pow-mono, pow-lt}
 use lib.Count.{leadingZeros, leading-top}
-use lib.Ieee.{binary32, units, fits}
+use lib.Ieee.{Float, binary32, units, fits}
+use lib.Ieee.Exact.{HasValue, units-val}
 use lib.Ieee.Fits.{round-fits}
 use Rattle.laws.specs.WholeRoot.{WholeRoot, wholeRoot}
 use Rattle.scalar.specs.Root.{twiceRoot, rootSign, rootUnits}
@@ -126,3 +127,29 @@ root-all q k a r P S N = root-units q k a r (parts-under q k (P .bits) (P .range
 pub units-fit : (n : ℕ) → T (fits binary32 (rootUnits n))
 unfolding rootUnits
 units-fit n = round-fits binary32 rootSign (twiceRoot (n * 2 ^ 149)) (2 ^ 150)
+
+-- ---- so the root is a whole number of 24 bits, or 2 ^ 24, shifted
+pub record ShiftedRoot (q k a : ℕ) : Type 0 where
+  pub p : ℕ
+  pub near : NearRoot (q * 2 ^ a) (p + 1)
+  pub is : rootUnits (q * 2 ^ k) ≡ units binary32 rootSign (p + 1) (half k a)
+  pub value : HasValue (rootUnits (q * 2 ^ k)) rootSign ((p + 1) * 2 ^ half k a) (2 ^ 149)
+
+pub shifted-root : (q k a : ℕ) → 0 < q → q * 2 ^ k < 2 ^ 277 → Shift q k a → ShiftedRoot q k a
+shifted-root q k a some under S =
+    record { p = near .0; near = near .1; is = is; value = subst (λ (y : Float). HasValue y rootSign ((near .0 + 1) * 2 ^ half k a) (2 ^ 149)) (sym is) (units-val binary32 rootSign (near .0 + 1) (half k a) small) }
+  where
+    near : (p : ℕ) × NearRoot (q * 2 ^ a) (p + 1)
+    near = nearest-root (q * 2 ^ a) (S .low) (S .high)
+
+    is : rootUnits (q * 2 ^ k) ≡ units binary32 rootSign (near .0 + 1) (half k a)
+    is = root-units q k a (near .0 + 1) under S (near .1)
+
+    short : k < 277
+    short = lt-of-not-le (λ (g : 277 ≤ k). not-le-of-lt under (le-trans (pow-mono g) (le-trans (le-mul-of-pos-right (2 ^ k) some) (le-of-eq (mul-comm (2 ^ k) q)))))
+
+    less : (k a : ℕ) → k < 277 → 23 ≤ a → 24 + half k a < 277
+    less k a h l = omega arith
+
+    small : (near .0 + 1) * 2 ^ half k a < 2 ^ 277
+    small = lt-of-le-of-lt (mul-le-mul-right (2 ^ half k a) (near .1 .most)) (lt-of-le-of-lt (le-of-eq (sym (pow-add 2 24 (half k a)))) (pow-lt (less k a short (S .least))))

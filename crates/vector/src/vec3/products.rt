@@ -2,7 +2,9 @@
 ghost use mathlib.Core.Path.{_≡_};
 ghost use Rattle.vector.specs.Products as Products;
 use crate::vec3::Vec3;
+use scalar::root::MarkedRoot;
 use scalar::root::sqrt;
+use scalar::root::sqrt_and_exactness;
 
 impl Vec3 {
     // The dot product.
@@ -30,6 +32,13 @@ impl Vec3 {
         sqrt(self.dot(self))
     }
 
+    // The length, and whether its root is exact.
+    pub fn length_and_exactness(self) -> MarkedRoot
+        ensures { λ r. ⌜ r ≡ Products.lengthAndExactness self ⌝ }
+    {
+        sqrt_and_exactness(self.dot(self))
+    }
+
     // The squared length.
     pub fn length_squared(self) -> f32
         ensures { λ r. ⌜ r ≡ Products.lengthSquared self ⌝ }
@@ -49,6 +58,13 @@ impl Vec3 {
         ensures { λ r. ⌜ r ≡ Products.distance self rhs ⌝ }
     {
         self.sub(rhs).length()
+    }
+
+    // The distance between two points, and whether its root is exact.
+    pub fn distance_and_exactness(self, rhs: Vec3) -> MarkedRoot
+        ensures { λ r. ⌜ r ≡ Products.distanceAndExactness self rhs ⌝ }
+    {
+        self.sub(rhs).length_and_exactness()
     }
 
     // The squared distance between two points.
