@@ -22,6 +22,9 @@ extern "C" {
 /* The square root of x, rounded to the nearest float. */
 float bench_sqrt(float x);
 
+/* Whether this root is exact: 1 where its square is x, without rounding, else 0. The root of either zero is exact; infinity, NaNs and all below zero have no exact root. */
+uint32_t bench_sqrt_is_exact(float x);
+
 /* a times b plus c, rounded once. */
 float bench_mul_add(float a, float b, float c);
 
@@ -70,6 +73,7 @@ float bench_rem(float a, float b);
      2  a row that is a direction, likewise
      3  row 0; the first value is the bits of a float (commands 25 to 28), the others are 0
      4  row 0; the first value is a whole number (commands 29 to 31), the others are 0
+     5  as 3, in place of it in 26 and 27 where the root is exact: its square is the sum of squares under it, which may itself have been rounded
 
    Where the refusal is not 0, no row has changed, the same commands are remembered, and the other five numbers are 0. Of these it is the first that holds, in the order 2, 3, 11, 4, 5, 8, 7, 6:
 

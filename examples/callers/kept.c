@@ -30,6 +30,8 @@ static void show(const char *what, const uint32_t answer[BENCH_ANSWER])
         printf("%s: %" PRIu32 "\n", what, answer[3]);
     else if (answer[2] == 3)
         printf("%s: %g\n", what, number(answer[3]));
+    else if (answer[2] == 5)
+        printf("%s: %g, an exact root\n", what, number(answer[3]));
     else
         printf("%s: row %" PRIu32 " of kind %" PRIu32 " is (%g, %g, %g)\n", what, answer[1], answer[2], number(answer[3]), number(answer[4]), number(answer[5]));
 }

@@ -4,8 +4,10 @@ ghost use mathlib.Core.List.{[], _∷_};
 ghost use lib.Ieee as Ieee;
 ghost use lib.Ieee.{binary32};
 ghost use Rattle.scalar.specs.Root as Root;
+ghost use Rattle.scalar.specs.ExactRoot as ExactRoot;
 ghost use Rattle.scalar.specs.Fused as Fused;
 ghost use Rattle.scalar.specs.Integral as Integral;
+ghost use Rattle.vector.specs.Masks.{bit};
 ghost use Rattle.commands.specs.Fields.{commandOf};
 ghost use Rattle.sheet.specs.Words.{stateWords};
 ghost use Rattle.sheet.specs.Run.{steppedAt, lentStepAt, Runs, RunsAll};
@@ -19,6 +21,15 @@ pub extern "C" fn bench_sqrt(x: f32) -> f32
     ensures { λ r. ⌜ r ≡ Root.root x ⌝ }
 {
     scalar::root::sqrt(x)
+}
+
+// Whether the root of x is exact: 1 where it is, else 0.
+#[no_mangle]
+pub extern "C" fn bench_sqrt_is_exact(x: f32) -> u32
+    ensures { λ r. ⌜ r ≡ bit (ExactRoot.exactRoot x) ⌝ }
+{
+    let marked = scalar::root::sqrt_and_exactness(x);
+    marked.exact as u32
 }
 
 #[no_mangle]

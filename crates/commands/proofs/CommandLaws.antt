@@ -13,7 +13,7 @@ use Rattle.commands.specs.declared.command.Command.{Command}
 use Rattle.commands.specs.Codes.{rowCount}
 use Rattle.commands.specs.Rows.{ModelRow}
 use Rattle.commands.specs.Fields.{sourcesOf}
-use Rattle.commands.specs.Results.{Result, Empties, Point, Aim, Aims, Number, Whole, Shows, Undoes}
+use Rattle.commands.specs.Results.{Result, Empties, Point, Aim, Aims, Number, Root, Whole, Shows, Undoes}
 use Rattle.commands.specs.Commands.{entryAt}
 use Rattle.commands.specs.Refusals.{refusalOf}
 use Rattle.commands.specs.Answers.{refused}
@@ -58,6 +58,7 @@ result-in-range c (Point v) there u = there .target u
 result-in-range c (Aim v) there u = there .target u
 result-in-range c (Aims v w) there u = let l = there .target (u .0) in let e = there .next (u .1) in omega arith
 result-in-range c (Number x) there u = tt
+result-in-range c (Root r) there u = tt
 result-in-range c (Whole n) there u = tt
 result-in-range c (Shows i r) there u = tt
 result-in-range c Undoes there u = tt
@@ -81,6 +82,7 @@ result-fits (Point v) h = h
 result-fits (Aim v) h = direction-fits v
 result-fits (Aims v w) h = (direction-fits v, direction-fits w)
 result-fits (Number x) h = tt
+result-fits (Root r) h = tt
 result-fits (Whole n) h = tt
 result-fits (Shows i r) h = tt
 result-fits Undoes h = tt

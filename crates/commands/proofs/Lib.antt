@@ -8,4 +8,5 @@ pub mod table
 pub mod CommandLaws
 pub mod claim
 pub mod ClaimLaws
+pub mod RootAnswerLaws
 pub mod history

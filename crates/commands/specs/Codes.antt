@@ -38,6 +38,10 @@ numberKind = 3
 abbrev pub wholeKind : ℕ
 wholeKind = 4
 
+-- "commands 26 and 27 answer kind 5 in place of 3 when the last root was exact"
+abbrev pub exactKind : ℕ
+exactKind = 5
+
 -- ---- refusals ("Refused, and by whose doing"); 0 stands for none
 -- "1, not 45 bytes before a line feed, or a field ill formed"
 abbrev pub illFormed : ℕ

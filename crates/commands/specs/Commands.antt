@@ -12,7 +12,7 @@ use Rattle.vector.specs.Operators.{add, sub, mulNumber}
 use Rattle.vector.specs.Elements.{min, max, minPosition, maxPosition}
 use Rattle.vector.specs.Comparisons.{cmple}
 use Rattle.vector.specs.Masks.{bitmask}
-use Rattle.vector.specs.Products.{dot, cross, length, distance}
+use Rattle.vector.specs.Products.{dot, cross, lengthAndExactness, distanceAndExactness}
 use Rattle.vector.specs.Projections.{projectOnto, rejectFrom, projectOntoNormalized, rejectFromNormalized}
 use Rattle.vector.specs.LengthClamps.{clampLength}
 use Rattle.vector.specs.Interpolation.{lerp, moveTowards, midpoint, mulAdd}
@@ -22,7 +22,7 @@ use Rattle.vector.specs.Orthogonal.{anyOrthogonalVector, anyOrthonormalPair}
 use Rattle.vector.specs.Asserts.{assertsClampLength, assertsProjectOnto, assertsRejectFrom, assertsProjectOntoNormalized, assertsRejectFromNormalized, assertsReflect, assertsRefract, assertsAngleBetween, assertsAnyOrthonormalPair}
 use Rattle.commands.specs.Codes.{emptyKind}
 use Rattle.commands.specs.Fields.{Uses, usesNone, usesT, usesTUVW, usesTA, usesTAU, usesTAUV, usesTAB, usesTABU, usesTABUVW, usesA, usesAB, Sources}
-use Rattle.commands.specs.Results.{Result, Empties, Point, Aim, Aims, Number, Whole, Shows, Undoes, isDirection}
+use Rattle.commands.specs.Results.{Result, Empties, Point, Aim, Aims, Number, Root, Whole, Shows, Undoes, isDirection}
 
 -- the kinds that the sources may have: "A source may be of either kind unless a direction is asked for"
 pub data Kinds : Type 0 where
@@ -106,10 +106,10 @@ table =
     ∷ asserting usesTABU Directions (ofABU Aim refract) (λ (s : Sources). assertsRefract (s .a .numbers) (s .b .numbers))
     -- 24: directions of the two vectors of `any_orthonormal_pair`(a), into t and t+1
     ∷ asserting usesTA Directions (λ (s : Sources). Aims (anyOrthonormalPair (s .a .numbers) .first) (anyOrthonormalPair (s .a .numbers) .second)) (λ (s : Sources). assertsAnyOrthonormalPair (s .a .numbers))
-    -- 25: `dot`; 26: `length` of a; 27: `distance`; 28: `angle_between`
+    -- 25: `dot`; 26: `length` of a; 27: `distance`, both with the mark of their root; 28: `angle_between`
     ∷ entry usesAB Filled (ofAB Number dot)
-    ∷ entry usesA Filled (ofA Number length)
-    ∷ entry usesAB Filled (ofAB Number distance)
+    ∷ entry usesA Filled (ofA Root lengthAndExactness)
+    ∷ entry usesAB Filled (ofAB Root distanceAndExactness)
     ∷ asserting usesAB Filled (ofAB Number angleBetween) (λ (s : Sources). assertsAngleBetween (s .a .numbers) (s .b .numbers))
     -- 29: `min_position`; 30: `max_position`; 31: bitmask of a.`cmple`(b)
     ∷ entry usesA Filled (ofA Whole minPosition)

@@ -1,5 +1,5 @@
 -- All marked corners of document 01 in one computed check: those of scalars and of vectors, and those of the sheet with its listing, run on the reference
--- model; and corners of command 33 (document 02, a). Values are bits.
+-- model; and corners of document 02's a (command 33) and c (exact roots). Values are bits.
 use mathlib.Core.Path.{_≡_, refl}
 use mathlib.Core.List.{List, [], _∷_, _++_}
 use Prim.Native.Nat.{ℕ}
@@ -10,7 +10,9 @@ use Rattle.laws.specs.WholeRoot as WholeRoot
 use Rattle.scalar.specs.Corners as Scalars
 use Rattle.scalar.specs.Corners.{Corners as ScalarCorners}
 use Rattle.scalar.specs.Root as Root
+use Rattle.scalar.specs.ExactRoot as ExactRoot
 use Rattle.scalar.specs.Sign as Sign
+use Rattle.scalar.specs.Acos as Acos
 use Rattle.vector.specs.Corners as Vectors
 use Rattle.vector.specs.Corners.{Corners as VectorCorners}
 use Rattle.vector.specs.Operators as Operators
@@ -73,10 +75,10 @@ pub record Corners : Type 0 where
   -- the marked corners of scalars and of vectors
   scalars : ScalarCorners
   vectors : VectorCorners
-  -- "(the point (3, 4, 0), its length, its direction) prints"
+  -- "(the point (3, 4, 0), its length, its direction) prints"; "In document 01's listing the second answer becomes kind 5"
   listed :
       answersTo listing
-      ≡ answer 0 0 1 1077936128 1082130432 0 ∷ answer 0 0 3 1084227584 0 0 ∷ answer 0 1 2 1058642330 1061997773 0 ∷ []
+      ≡ answer 0 0 1 1077936128 1082130432 0 ∷ answer 0 0 5 1084227584 0 0 ∷ answer 0 1 2 1058642330 1061997773 0 ∷ []
   -- "Fresh: all empty", and "4, a source empty"; "0: t, kind 0, zeros", and then the row is empty
   all-empty : answersTo (command 32 0 0 0 0 0 0 ∷ command 32 0 63 0 0 0 0 ∷ []) ≡ refused 4 ∷ refused 4 ∷ []
   emptied : lastOf (answersTo (listing ++ (command 0 1 0 0 0 0 0 ∷ []))) ≡ answer 0 1 0 0 0 0
@@ -112,7 +114,7 @@ pub record Corners : Type 0 where
   -- "Refused steps and measures are not remembered": a sum with an empty source and a length, and 33 takes back the point before them
   others-kept :
       drop 1 (answersTo (pointInto 3 0x3f800000 ∷ command 3 3 3 9 0 0 0 ∷ command 26 0 3 0 0 0 0 ∷ back ∷ []))
-      ≡ refused 4 ∷ answer 0 0 3 0x3f800000 0 0 ∷ answer 0 3 0 0 0 0 ∷ []
+      ≡ refused 4 ∷ answer 0 0 5 0x3f800000 0 0 ∷ answer 0 3 0 0 0 0 ∷ []
   -- "nothing can be redone": a second 33 takes back the command before, a third finds nothing
   one-by-one :
       drop 2 (answersTo (pointInto 0 0x3f800000 ∷ pointInto 1 0x40000000 ∷ back ∷ back ∷ back ∷ []))
@@ -121,9 +123,22 @@ pub record Corners : Type 0 where
   first-stays :
       drop 128 (answersTo (pointInto 0 0x40000000 ∷ (replicate 64 (pointInto 0 0x3f800000) ++ replicate 65 back)))
       ≡ answer 0 0 1 0x40000000 0 0 ∷ refused 11 ∷ []
+  -- document 02, c: 26 and 27 "answer kind 5 in place of 3 when the last root was exact". From (0, 3, 6) to (2, 0, 0) it is 7, whole; (1, 1, 0) is not
+  whole-triangle : lastOf (answersTo (command 1 0 0 0 0 0x40400000 0x40c00000 ∷ pointInto 1 0x40000000 ∷ command 27 0 0 1 0 0 0 ∷ [])) ≡ answer 0 0 5 0x40e00000 0 0
+  not-whole : lastOf (answersTo (command 1 0 0 0 0x3f800000 0x3f800000 0 ∷ command 26 0 0 0 0 0 0 ∷ [])) ≡ answer 0 0 3 0x3fb504f3 0 0
+  -- a length of zero, also of zeros below zero, and a distance of zero
+  zero-length : lastOf (answersTo (command 1 0 0 0 0x80000000 0x80000000 0x80000000 ∷ command 26 0 0 0 0 0 0 ∷ [])) ≡ answer 0 0 5 0 0 0
+  no-distance : lastOf (answersTo (pointInto 0 0x40400000 ∷ command 27 0 0 0 0 0 0 ∷ [])) ≡ answer 0 0 5 0 0 0
+  -- "The mark is about the root alone; the sum of squares before it may have been rounded": (2^-75, 0, 0), whose square vanishes, and (4096, 1, 0)
+  vanished : lastOf (answersTo (pointInto 0 0x1a000000 ∷ command 26 0 0 0 0 0 0 ∷ [])) ≡ answer 0 0 5 0 0 0
+  sum-rounded : lastOf (answersTo (command 1 0 0 0 0x45800000 0x3f800000 0 ∷ command 26 0 0 0 0 0 0 ∷ [])) ≡ answer 0 0 5 0x45800000 0 0
+  -- a length that is not finite is refused as before; 25 and 28 answer kind 3, here of a dot product of 25 and an angle of 0
+  overflowed : lastOf (answersTo (pointInto 0 0x5f800000 ∷ command 26 0 0 0 0 0 0 ∷ [])) ≡ refused 6
+  dot-plain : lastOf (answersTo (listing ++ (command 25 0 0 0 0 0 0 ∷ []))) ≡ answer 0 0 3 0x41c80000 0 0
+  angle-plain : lastOf (answersTo (listing ++ (command 28 0 0 0 0 0 0 ∷ []))) ≡ answer 0 0 3 0 0 0
 
 pub corners : Corners
-unfolding Model.runBy Model.stepOf Model.applied Model.remembering Model.restored Effects.effectOf Effects.directionIn Effects.unlessRefused Effects.commandEffect Rows.fresh Rows.rowAt Rows.withRow Commands.table Commands.entryAt Commands.allows Results.directionOf Refusals.unknown Refusals.noRow Refusals.nothingRemembered Refusals.badSource Refusals.outOfOrder Refusals.outOfRange Refusals.badValue Refusals.noRefraction Refusals.isNothing Refusals.lacksDirection Refusals.noFactor Refusals.noDirection Refusals.notFinite Refusals.first Refusals.early Refusals.late Refusals.refusals Refusals.refusalOf Comparisons.isFinite Normalizing.tryNormalize Normalizing.usable Products.length Products.lengthSquared Products.lengthRecip Products.dot Operators.mulNumber Operators.numberMul Operators.sub Optics.refract Optics.refractK Orthogonal.anyOrthonormalPair Sign.signum Sign.copysign Sign.abs Root.root Root.rootUnits WholeRoot.wholeRoot Exact.sizeIn Exact.negative Ieee.round Ieee.neg Ieee.div Ieee.sub Ieee.le Ieee.lt Ieee.eq Ieee.add Ieee.sum Ieee.mul Ieee.ofBits Ieee.toBits
+unfolding Model.runBy Model.stepOf Model.applied Model.remembering Model.restored Effects.effectOf Effects.directionIn Effects.unlessRefused Effects.commandEffect Rows.fresh Rows.rowAt Rows.withRow Commands.table Commands.entryAt Commands.allows Results.directionOf Refusals.unknown Refusals.noRow Refusals.nothingRemembered Refusals.badSource Refusals.outOfOrder Refusals.outOfRange Refusals.badValue Refusals.noRefraction Refusals.isNothing Refusals.lacksDirection Refusals.noFactor Refusals.noDirection Refusals.notFinite Refusals.first Refusals.early Refusals.late Refusals.refusals Refusals.refusalOf Comparisons.isFinite Normalizing.tryNormalize Normalizing.usable Products.length Products.lengthAndExactness Products.distanceAndExactness Products.lengthSquared Products.lengthRecip Products.dot Operators.mulNumber Operators.numberMul Operators.sub Optics.refract Optics.refractK Optics.angleBetween Acos.acosApprox Orthogonal.anyOrthonormalPair Sign.signum Sign.copysign Sign.abs ExactRoot.exactRoot ExactRoot.rootAndExactness Root.root Root.rootUnits WholeRoot.wholeRoot Exact.sizeIn Exact.negative Ieee.round Ieee.neg Ieee.div Ieee.sub Ieee.le Ieee.lt Ieee.eq Ieee.add Ieee.sum Ieee.mul Ieee.ofBits Ieee.toBits
 corners = record {
   scalars = Scalars.corners;
   vectors = Vectors.corners;
@@ -152,4 +167,13 @@ corners = record {
   others-kept = refl;
   one-by-one = refl;
   first-stays = refl;
+  whole-triangle = refl;
+  not-whole = refl;
+  zero-length = refl;
+  no-distance = refl;
+  vanished = refl;
+  sum-rounded = refl;
+  overflowed = refl;
+  dot-plain = refl;
+  angle-plain = refl;
 }

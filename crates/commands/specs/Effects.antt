@@ -12,10 +12,10 @@ use Rattle.commands.specs.declared.effects.Effect.the-variants.{Tell, Pu
 use Rattle.commands.specs.Codes.{resultInfinite, directionMissing}
 use Rattle.commands.specs.Rows.{ModelRow, empty, point, direction}
 use Rattle.commands.specs.Fields.{Sources, sourcesOf}
-use Rattle.commands.specs.Results.{Result, Empties, Point, Aim, Aims, Number, Whole, Shows, Undoes, directionOf}
+use Rattle.commands.specs.Results.{Result, Empties, Point, Aim, Aims, Number, Root, Whole, Shows, Undoes, directionOf}
 use Rattle.commands.specs.Commands.{entryAt}
 use Rattle.commands.specs.Refusals.{first, late, refusalOf, lacksDirection, notFinite}
-use Rattle.commands.specs.Answers.{ModelAnswer, refused, shown, number, whole, answerOf}
+use Rattle.commands.specs.Answers.{ModelAnswer, refused, shown, number, rootAnswer, whole, answerOf}
 
 -- row t is written, or rows t and t+1; the rows before the latest command that is remembered come back; or nothing but an answer
 pub data ModelEffect : Type 0 where
@@ -36,6 +36,7 @@ effectOf (Point v) = Puts (point v)
 effectOf (Aim v) = Puts (direction (directionIn (directionOf v)))
 effectOf (Aims v w) = PutsTwo (direction (directionIn (directionOf v))) (direction (directionIn (directionOf w)))
 effectOf (Number x) = Tells (number x)
+effectOf (Root r) = Tells (rootAnswer r)
 effectOf (Whole n) = Tells (whole n)
 effectOf (Shows i r) = Tells (shown i r)
 effectOf Undoes = Restores

@@ -11,4 +11,5 @@ pub mod Model
 pub mod CommandSets
 pub mod Claim
 pub mod HistoryMeaning
+pub mod RootAnswers
 pub mod Corners

@@ -17,7 +17,7 @@ use Rattle.commands.specs.declared.command.Command.{Command}
 use Rattle.commands.specs.Codes.{last, undo, pointKind, unknownCommand, rowOutside, unfitSource, valueOutside, resultInfinite, directionMissing, allReflected, historyEmpty}
 use Rattle.commands.specs.Rows.{ModelRow}
 use Rattle.commands.specs.Fields.{Sources}
-use Rattle.commands.specs.Results.{Result, Empties, Point, Aim, Aims, Number, Whole, Shows, Undoes, directionOf}
+use Rattle.commands.specs.Results.{Result, Empties, Point, Aim, Aims, Number, Root, Whole, Shows, Undoes, directionOf}
 use Rattle.commands.specs.Commands.{allows, entryAt}
 
 -- "2, command above 32"; "refusal 2 begins above the highest command in use"
@@ -74,6 +74,7 @@ lacksDirection (Aims v w) = isNothing (directionOf v) || isNothing (directionOf 
 lacksDirection Empties = false
 lacksDirection (Point v) = false
 lacksDirection (Number x) = false
+lacksDirection (Root r) = false
 lacksDirection (Whole n) = false
 lacksDirection (Shows i r) = false
 lacksDirection Undoes = false
@@ -91,6 +92,7 @@ noDirection n s =
 unfoldable pub notFinite : Result → Bool
 notFinite (Point v) = not (isFinite v)
 notFinite (Number x) = not (finite x)
+notFinite (Root r) = not (finite (r .root))
 notFinite Empties = false
 notFinite (Aim v) = false
 notFinite (Aims v w) = false

@@ -3,6 +3,7 @@ use Prim.Native.Nat.{ℕ}
 use mathlib.Core.Bool.{Bool, cond}
 use lib.Dec.{eqb}
 use lib.Ieee.{Float}
+use Rattle.scalar.specs.declared.root.MarkedRoot.{MarkedRoot}
 use Rattle.vector.specs.declared.vec3.Vec3.{Vec3}
 use Rattle.vector.specs.declared.vec3.normalizing.Normalized.{Normalized}
 use Rattle.vector.specs.declared.vec3.normalizing.Normalized.the-variants.{Nothing}
@@ -18,8 +19,9 @@ pub data Result : Type 0 where
   Aim : Vec3 → Result
   -- rows t and t + 1 become the directions of these
   Aims : Vec3 → Vec3 → Result
-  -- no row is written: a number, a whole number or a row is told
+  -- no row is written: a number, a root with its mark, a whole number or a row is told
   Number : Float → Result
+  Root : MarkedRoot → Result
   Whole : ℕ → Result
   Shows : ℕ → ModelRow → Result
   -- the rows before the latest command that is remembered come back

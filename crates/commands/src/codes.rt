@@ -14,6 +14,8 @@ pub const NUMBER: u32 = 3;
 
 pub const WHOLE: u32 = 4;
 
+pub const EXACT: u32 = 5;
+
 // Refusals.
 pub const ILL_FORMED: u32 = 1;
 

@@ -16,11 +16,12 @@ pub struct Command {
     pub w: u32,
 }
 
-// The refusal's number; a row, its kind and its numbers; a number; or a whole number. specs/Answers gives the paper's six numbers for each.
+// The refusal's number; a row, its kind and its numbers; a number; a root that is exact; or a whole number. specs/Answers gives the paper's six numbers for each.
 pub enum Answer {
     Refused(u32),
     Shown { row: u32, kind: u32, v: Vec3 },
     Number(f32),
+    Exact(f32),
     Whole(u32),
 }
 

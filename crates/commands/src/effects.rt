@@ -23,6 +23,7 @@ use crate::effects::projections::reject;
 use crate::effects::results::angle;
 use crate::effects::results::number;
 use crate::effects::results::point;
+use crate::effects::results::root;
 use crate::effects::results::whole;
 use crate::refusal::refusal;
 use crate::row::Row;
@@ -107,8 +108,8 @@ pub(crate) fn late_effect(c: Command, a: Row, b: Row) -> Effect
         23 => refracted(a.v, b.v, from_bits(c.u)),
         24 => directions(a.v.any_orthonormal_pair()),
         25 => number(a.v.dot(b.v)),
-        26 => number(a.v.length()),
-        27 => number(a.v.distance(b.v)),
+        26 => root(a.v.length_and_exactness()),
+        27 => root(a.v.distance_and_exactness(b.v)),
         28 => angle(a.v, b.v),
         29 => whole(a.v.min_position()),
         30 => whole(a.v.max_position()),

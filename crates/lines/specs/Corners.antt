@@ -62,9 +62,9 @@ pub record Corners : Type 0 where
   no-byte : numbers [] ≡ none
   -- a digit beside its field's right edge
   beside-edge : numbers (bytes "  2  1 0  0           0          0          0") ≡ none
-  -- document 01's output, line by line
+  -- document 01's output, line by line, the second as document 02's c has it
   point-answer : answerLine 0 0 1 1077936128 1082130432 0 ≡ bytes "  0  0  1 1077936128 1082130432          0" ++ (10 ∷ [])
-  length-answer : answerLine 0 0 3 1084227584 0 0 ≡ bytes "  0  0  3 1084227584          0          0" ++ (10 ∷ [])
+  length-answer : answerLine 0 0 5 1084227584 0 0 ≡ bytes "  0  0  5 1084227584          0          0" ++ (10 ∷ [])
   direction-answer : answerLine 0 1 2 1058642330 1061997773 0 ≡ bytes "  0  1  2 1058642330 1061997773          0" ++ (10 ∷ [])
 
 pub corners : Corners

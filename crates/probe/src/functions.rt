@@ -39,7 +39,7 @@ const SIGN: u16 = 8;
 
 // The shape of each number's function, and 0 where there is none: its ones are how many arguments it takes, its tens how many of these, at the front, are
 // bools, and its hundreds its group.
-const SHAPES: [u16; 120] = [
+const SHAPES: [u16; 122] = [
     0,
     101, // 1: sqrt
     103, // 2: mul_add
@@ -56,7 +56,7 @@ const SHAPES: [u16; 120] = [
     201, // 13: is_finite
     201, // 14: is_nan
     801, // 15: is_sign_negative
-    0,
+    901, // 16: sqrt_and_exactness
     0,
     0,
     0,
@@ -160,11 +160,13 @@ const SHAPES: [u16; 120] = [
     700, // 117: ZERO
     700, // 118: ONE
     700, // 119: X
+    903, // 120: length_and_exactness
+    906, // 121: distance_and_exactness
 ];
 
 // The shape of a number's function.
 fn shape_of(number: u32) -> u16 {
-    if number < 120 {
+    if number < 122 {
         return SHAPES[number as usize];
     }
     0
@@ -202,7 +204,7 @@ fn given_by(group: u16, number: u32, values: &[u32; 10]) -> Answer
         VECTOR_OF_TWO => vector(vectors::of_two(number, a, b)),
         VECTOR_OF_MORE => vector(vectors::of_more(number, a, b, c, m)),
         SIGN => signs::answer(number, values),
-        _ => others::answer(number, a, b.x, m, index),
+        _ => others::answer(number, a, b, m, index),
     }
 }
 

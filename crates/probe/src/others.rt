@@ -1,8 +1,10 @@
 // The functions whose answers have a form of their own, and those that take an index, which refuse one above 2.
 ghost use Prim.Native.Nat.{_≤_};
+ghost use mathlib.Core.List.{[], _∷_};
 ghost use lib.Ieee.{binary32, toBits};
 ghost use Rattle.vector.specs.Indexed as Indexed;
-ghost use Rattle.probe.specs.Shows.{Shows};
+ghost use Rattle.vector.specs.Masks as Masks;
+ghost use Rattle.probe.specs.Shows.{Gives, Shows};
 use crate::answer::Answer;
 use crate::answer::INDEX;
 use crate::answer::given;
@@ -11,24 +13,36 @@ use crate::forms::float;
 use crate::forms::floats;
 use crate::masks;
 use scalar::bits::to_bits;
+use scalar::root::MarkedRoot;
+use scalar::root::sqrt_and_exactness;
 use vector::bvec3::BVec3;
 use vector::vec3::Vec3;
 use vector::vec3::index::Component;
 use vector::vec3::normalizing::Normalized;
 use vector::vec4::Vec4;
 
-pub(crate) fn answer(number: u32, a: Vec3, w: f32, m: BVec3, index: u32) -> Answer
+pub(crate) fn answer(number: u32, a: Vec3, b: Vec3, m: BVec3, index: u32) -> Answer
     ensures { λ r. ⌜ r .count ≤ 6 ⌝ }
 {
     match number {
+        16 => marked(sqrt_and_exactness(a.x)),
         32 => masks::test(m, index),
         72 => try_normalize(a),
         75 => normalize_and_length(a),
         102 => any_orthonormal_pair(a),
         103 => component(a, index),
         115 => four(a.to_homogeneous()),
-        _ => four(a.extend(w)), // 116
+        116 => four(a.extend(b.x)),
+        120 => marked(a.length_and_exactness()),
+        _ => marked(a.distance_and_exactness(b)), // 121
     }
+}
+
+// A number and the mark of its root behind it.
+fn marked(r: MarkedRoot) -> Answer
+    ensures { λ answer. ⌜ Gives 0 2 (toBits binary32 (r .root) ∷ Masks.bit (r .exact) ∷ 0 ∷ 0 ∷ 0 ∷ 0 ∷ []) answer ⌝ }
+{
+    given(2, [to_bits(r.root), r.exact as u32, 0, 0, 0, 0])
 }
 
 // A number, or the refusal.

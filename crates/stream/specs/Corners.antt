@@ -7,6 +7,7 @@ use lib.Ieee as Ieee
 use Rattle.laws.specs.Exact as Exact
 use Rattle.laws.specs.WholeRoot as WholeRoot
 use Rattle.scalar.specs.Root as Root
+use Rattle.scalar.specs.ExactRoot as ExactRoot
 use Rattle.vector.specs.Operators as Operators
 use Rattle.vector.specs.Products as Products
 use Rattle.vector.specs.Comparisons as Comparisons
@@ -44,7 +45,7 @@ abbrev length : List ℕ
 length = line " 26  0  0  0          0          0          0"
 
 abbrev lengthAnswer : List ℕ
-lengthAnswer = line "  0  0  3 1084227584          0          0"
+lengthAnswer = line "  0  0  5 1084227584          0          0"
 
 -- a 33, with fields that it does not use
 abbrev back : List ℕ
@@ -54,7 +55,7 @@ abbrev pub ill : List ℕ
 ill = line "  1  0  0          0          0          0"
 
 pub record Corners : Type 0 where
-  -- "(the point (3, 4, 0), its length, its direction) prints"
+  -- "(the point (3, 4, 0), its length, its direction) prints"; "the second answer becomes kind 5"
   listed :
       outputOf fresh (point ++ length ++ line "  2  1  0  0          0          0          0")
       ≡ pointAnswer ++ lengthAnswer ++ line "  0  1  2 1058642330 1061997773          0"
@@ -74,5 +75,5 @@ pub record Corners : Type 0 where
   in-between : outputOf fresh (point ++ (10 ∷ []) ++ length ++ (32 ∷ [])) ≡ pointAnswer ++ ill ++ lengthAnswer ++ ill
 
 pub corners : Corners
-unfolding Texts.bytes Responses.response Responses.answerText Stream.pushed Stream.byteFed Stream.feedOf Stream.endOf Fields.commandOf Field.digits Field.decimal Field.valueFrom Field.value Field.leadingZero Field.number Field.glyph Field.lead Field.written Columns.fieldAt Columns.both Columns.numbersAt Columns.text CommandLine.numbers AnswerLine.answerLine Model.stepOf Model.applied Model.remembering Model.restored Effects.effectOf Effects.directionIn Effects.unlessRefused Effects.commandEffect Rows.fresh Rows.rowAt Rows.withRow Commands.table Commands.entryAt Commands.allows Results.directionOf Refusals.unknown Refusals.noRow Refusals.nothingRemembered Refusals.badSource Refusals.outOfOrder Refusals.outOfRange Refusals.badValue Refusals.noRefraction Refusals.isNothing Refusals.lacksDirection Refusals.noFactor Refusals.noDirection Refusals.notFinite Refusals.first Refusals.early Refusals.late Refusals.refusals Refusals.refusalOf Comparisons.isFinite Normalizing.tryNormalize Normalizing.usable Products.length Products.lengthSquared Products.lengthRecip Products.dot Operators.mulNumber Root.root Root.rootUnits WholeRoot.wholeRoot Exact.sizeIn Exact.negative Ieee.round Ieee.neg Ieee.div Ieee.sub Ieee.le Ieee.lt Ieee.eq Ieee.add Ieee.sum Ieee.mul Ieee.ofBits Ieee.toBits
+unfolding Texts.bytes Responses.response Responses.answerText Stream.pushed Stream.byteFed Stream.feedOf Stream.endOf Fields.commandOf Field.digits Field.decimal Field.valueFrom Field.value Field.leadingZero Field.number Field.glyph Field.lead Field.written Columns.fieldAt Columns.both Columns.numbersAt Columns.text CommandLine.numbers AnswerLine.answerLine Model.stepOf Model.applied Model.remembering Model.restored Effects.effectOf Effects.directionIn Effects.unlessRefused Effects.commandEffect Rows.fresh Rows.rowAt Rows.withRow Commands.table Commands.entryAt Commands.allows Results.directionOf Refusals.unknown Refusals.noRow Refusals.nothingRemembered Refusals.badSource Refusals.outOfOrder Refusals.outOfRange Refusals.badValue Refusals.noRefraction Refusals.isNothing Refusals.lacksDirection Refusals.noFactor Refusals.noDirection Refusals.notFinite Refusals.first Refusals.early Refusals.late Refusals.refusals Refusals.refusalOf Comparisons.isFinite Normalizing.tryNormalize Normalizing.usable Products.length Products.lengthAndExactness Products.lengthSquared Products.lengthRecip Products.dot Operators.mulNumber ExactRoot.exactRoot ExactRoot.rootAndExactness Root.root Root.rootUnits WholeRoot.wholeRoot Exact.sizeIn Exact.negative Ieee.round Ieee.neg Ieee.div Ieee.sub Ieee.le Ieee.lt Ieee.eq Ieee.add Ieee.sum Ieee.mul Ieee.ofBits Ieee.toBits
 corners = record { listed = refl; taken-back = refl; empty = refl; blank-line = refl; column-more = refl; columns-more = refl; unended = refl; in-between = refl }

@@ -6,7 +6,7 @@ use Rattle.vector.specs.ExactVectors.{F32Vec}
 use Rattle.commands.specs.declared.command.Command.{Command}
 use Rattle.commands.specs.Rows.{ModelRow, direction}
 use Rattle.commands.specs.Fields.{sourcesOf}
-use Rattle.commands.specs.Results.{Result, Empties, Point, Aim, Aims, Number, Whole, Shows, Undoes, directionOf}
+use Rattle.commands.specs.Results.{Result, Empties, Point, Aim, Aims, Number, Root, Whole, Shows, Undoes, directionOf}
 use Rattle.commands.specs.Commands.{entryAt}
 use Rattle.commands.specs.Refusals.{isNothing, lacksDirection, notFinite}
 use Rattle.commands.specs.Effects.{ModelEffect, Puts, PutsTwo, Restores, Tells, directionIn, effectOf}
@@ -37,6 +37,7 @@ result-sound (Aim v) f h k = direction-written v f h
 result-sound (Aims v w) f h k =
     let both = none-of-two (isNothing (directionOf v)) (isNothing (directionOf w)) h in (direction-written v (f .0) (both .0), direction-written w (f .1) (both .1))
 result-sound (Number x) f h k = refl
+result-sound (Root r) f h k = refl
 result-sound (Whole n) f h k = refl
 result-sound (Shows i r) f h k = refl
 result-sound Undoes f h k = tt

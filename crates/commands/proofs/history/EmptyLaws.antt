@@ -8,7 +8,7 @@ use Rattle.commands.specs.declared.command.Command.{Command}
 use Rattle.commands.specs.Codes.{undo, historyEmpty}
 use Rattle.commands.specs.Rows.{ModelRow}
 use Rattle.commands.specs.Fields.{sourcesOf}
-use Rattle.commands.specs.Results.{Result, Empties, Point, Aim, Aims, Number, Whole, Shows, Undoes}
+use Rattle.commands.specs.Results.{Result, Empties, Point, Aim, Aims, Number, Root, Whole, Shows, Undoes}
 use Rattle.commands.specs.Refusals.{early, refusals, refusalOf, nothingRemembered}
 use Rattle.commands.specs.Answers.{refused}
 use Rattle.commands.specs.Effects.{ModelEffect, Puts, PutsTwo, Restores, Tells, effectOf, commandEffect}
@@ -36,6 +36,7 @@ module _ (m : Bool) where
   result-same n t (Aim v) other h = refl
   result-same n t (Aims v w) other h = refl
   result-same n t (Number x) other h = refl
+  result-same n t (Root r) other h = refl
   result-same n t (Whole k) other h = refl
   result-same n t (Shows i r) other h = refl
   result-same n t Undoes other h = absurd (other (h .1))

@@ -6,7 +6,7 @@ use mathlib.Core.Bool.{Bool, true, false, true≢false}
 use Rattle.commands.specs.declared.command.Command.{Command}
 use Rattle.commands.specs.Codes.{lastWriting, undo}
 use Rattle.commands.specs.Rows.{State}
-use Rattle.commands.specs.Results.{Result, Empties, Point, Aim, Aims, Number, Whole, Shows, Undoes}
+use Rattle.commands.specs.Results.{Result, Empties, Point, Aim, Aims, Number, Root, Whole, Shows, Undoes}
 use Rattle.commands.specs.Effects.{effectOf}
 use Rattle.commands.specs.Model.{Stepped, remembering, applied, stepOf}
 use Rattle.commands.specs.Claim.{sourcesAt, refusalAt}
@@ -25,6 +25,7 @@ module _ (s : State) (t n : ℕ) where
   used-remembered (Aim v) used e h = refl
   used-remembered (Aims v w) used e h = refl
   used-remembered (Number x) used e h = absurd (true≢false (sym e ∙ h))
+  used-remembered (Root r) used e h = absurd (true≢false (sym e ∙ h))
   used-remembered (Whole k) used e h = absurd (true≢false (sym e ∙ h))
   used-remembered (Shows i r) used e h = absurd (true≢false (sym e ∙ h))
   used-remembered Undoes used e h = absurd (true≢false (sym e ∙ h .0))
@@ -36,6 +37,7 @@ module _ (s : State) (t n : ℕ) where
   unused-left (Aim v) used e other h = absurd (true≢false (sym h ∙ e))
   unused-left (Aims v w) used e other h = absurd (true≢false (sym (h .0) ∙ e))
   unused-left (Number x) used e other h = refl
+  unused-left (Root r) used e other h = refl
   unused-left (Whole k) used e other h = refl
   unused-left (Shows i r) used e other h = refl
   unused-left Undoes used e other h = absurd (other (h .1))

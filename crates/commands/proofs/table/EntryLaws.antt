@@ -5,12 +5,13 @@ use mathlib.Core.Path.{_≡_, refl}
 use mathlib.Core.Bool.{Bool, true, false}
 use lib.Ieee.{Float}
 use Rattle.scalar.proofs.floats.FitsLaws.{Fits32}
+use Rattle.scalar.specs.declared.root.MarkedRoot.{MarkedRoot}
 use Rattle.vector.specs.declared.vec3.Vec3.{Vec3}
 use Rattle.vector.specs.ExactVectors.{F32Vec}
 use Rattle.commands.specs.Codes.{undo}
 use Rattle.commands.specs.Rows.{ModelRow}
 use Rattle.commands.specs.Fields.{Uses, Sources, usesTA, usesTAB, usesTABU, usesA, usesAB}
-use Rattle.commands.specs.Results.{Result, Empties, Point, Aim, Aims, Number, Whole, Shows, Undoes}
+use Rattle.commands.specs.Results.{Result, Empties, Point, Aim, Aims, Number, Root, Whole, Shows, Undoes}
 use Rattle.commands.specs.Commands.{Kinds, Entry, asserting, ofA, ofAB, ofABU}
 
 -- ---- one row
@@ -21,6 +22,7 @@ Targets n t (Point v) = t ≡ true
 Targets n t (Aim v) = t ≡ true
 Targets n t (Aims v w) = (t ≡ true) × (n ≡ 24)
 Targets n t (Number x) = t ≡ false
+Targets n t (Root r) = t ≡ false
 Targets n t (Whole k) = t ≡ false
 Targets n t (Shows i r) = t ≡ false
 Targets n t Undoes = (t ≡ false) × (n ≡ undo)
@@ -50,6 +52,7 @@ FitResult (Point v) = F32Vec v
 FitResult (Aim v) = F32Vec v
 FitResult (Aims v w) = F32Vec v × F32Vec w
 FitResult (Number x) = Unit {0}
+FitResult (Root r) = Unit {0}
 FitResult (Whole k) = Unit {0}
 FitResult (Shows i r) = Unit {0}
 FitResult Undoes = Unit {0}
@@ -78,12 +81,15 @@ module _ {n : ℕ} {k : Kinds} {x : Sources → Bool} where
   pub pointABU : (f : Vec3 → Vec3 → Float → Vec3) → ((a b : Vec3) (u : Float) → F32Vec b → F32Vec (f a b u)) → Lawful n (asserting usesTABU k (ofABU Point f) x)
   pointABU f h = lawful (λ s. refl) tt tt (λ s v. h _ _ _ (v .fits-b))
 
-  -- a number or a whole number
-  pub numberA : (f : Vec3 → Float) → Lawful n (asserting usesA k (ofA Number f) x)
-  numberA f = lawful (λ s. refl) tt (λ s r. refl) (λ s v. tt)
-
+  -- a number, a root or a whole number
   pub numberAB : (f : Vec3 → Vec3 → Float) → Lawful n (asserting usesAB k (ofAB Number f) x)
   numberAB f = lawful (λ s. refl) tt tt (λ s v. tt)
+
+  pub rootA : (f : Vec3 → MarkedRoot) → Lawful n (asserting usesA k (ofA Root f) x)
+  rootA f = lawful (λ s. refl) tt (λ s r. refl) (λ s v. tt)
+
+  pub rootAB : (f : Vec3 → Vec3 → MarkedRoot) → Lawful n (asserting usesAB k (ofAB Root f) x)
+  rootAB f = lawful (λ s. refl) tt tt (λ s v. tt)
 
   pub wholeA : (f : Vec3 → ℕ) → Lawful n (asserting usesA k (ofA Whole f) x)
   wholeA f = lawful (λ s. refl) tt (λ s r. refl) (λ s v. tt)

@@ -10,7 +10,7 @@ use Rattle.vector.specs.Operators.{add, sub}
 use Rattle.vector.specs.Elements.{min, max, minPosition, maxPosition}
 use Rattle.vector.specs.Comparisons.{cmple}
 use Rattle.vector.specs.Masks.{bitmask}
-use Rattle.vector.specs.Products.{dot, cross, length, distance}
+use Rattle.vector.specs.Products.{dot, cross, lengthAndExactness, distanceAndExactness}
 use Rattle.vector.specs.Interpolation.{lerp, moveTowards, midpoint}
 use Rattle.vector.specs.Rounding.{trunc, floor, round, divEuclid, remEuclid}
 use Rattle.vector.specs.Optics.{angleBetween}
@@ -22,7 +22,7 @@ use Rattle.commands.specs.Fields.{Sources}
 use Rattle.commands.specs.Results.{isDirection}
 use Rattle.commands.specs.Commands.{byKind, table, entryAt}
 use Rattle.commands.proofs.table.EachLaws.{Each, each-at, _and_}
-use Rattle.commands.proofs.table.EntryLaws.{Lawful, lawful, pointA, pointAB, pointABU, numberA, numberAB, wholeA, wholeAB}
+use Rattle.commands.proofs.table.EntryLaws.{Lawful, lawful, pointA, pointAB, pointABU, numberAB, rootA, rootAB, wholeA, wholeAB}
 
 -- 11 and 12: either function
 byKind-fits :
@@ -68,8 +68,8 @@ rows-lawful =
     and lawful (λ s. refl) tt tt (λ s v. Fit.refracted-vector _ _ _)
     and lawful (λ s. (refl, refl)) tt (λ s r. refl) (λ s v. search (first-fits, second-fits))
     and numberAB dot
-    and numberA length
-    and numberAB distance
+    and rootA lengthAndExactness
+    and rootAB distanceAndExactness
     and numberAB angleBetween
     and wholeA minPosition
     and wholeA maxPosition

@@ -11,6 +11,7 @@ use crate::codes::POINT;
 use crate::codes::RESULT_INFINITE;
 use crate::command::Answer;
 use crate::effects::Effect;
+use scalar::root::MarkedRoot;
 use scalar::sign::is_finite;
 use vector::vec3::Vec3;
 
@@ -31,6 +32,20 @@ pub(crate) fn number(x: f32) -> Effect
         Effect::Tell(Answer::Number(x))
     } else {
         Effect::Tell(Answer::Refused(RESULT_INFINITE))
+    }
+}
+
+// A root, and whether it is exact.
+pub(crate) fn root(r: MarkedRoot) -> Effect
+    ensures { λ e. ⌜ effectBy e ≡ settled (Results.Root r) ⌝ }
+{
+    if !is_finite(r.root) {
+        return Effect::Tell(Answer::Refused(RESULT_INFINITE));
+    }
+    if r.exact {
+        Effect::Tell(Answer::Exact(r.root))
+    } else {
+        Effect::Tell(Answer::Number(r.root))
     }
 }
 

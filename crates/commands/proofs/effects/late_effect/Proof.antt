@@ -3,6 +3,7 @@
 use Prim.Native.Nat.{ℕ}
 use mathlib.Core.Path.{ap, ap₂, _∙_}
 use lib.Ieee.{Float, lt}
+use Rattle.scalar.specs.declared.root.MarkedRoot.{MarkedRoot}
 use Rattle.vector.specs.declared.vec3.Vec3.{Vec3}
 use Rattle.vector.specs.declared.vec3.orthogonal.Pair.{Pair}
 use Rattle.vector.specs.Vectors.{zer}
@@ -13,7 +14,7 @@ use Rattle.vector.specs.Interpolation.{lerp, moveTowards, mulAdd}
 use Rattle.vector.specs.Optics.{refract, refractK}
 use Rattle.commands.specs.Codes.{directionMissing, allReflected}
 use Rattle.commands.specs.Rows.{ModelRow}
-use Rattle.commands.specs.Results.{Point, Aim, Aims, Number, Whole}
+use Rattle.commands.specs.Results.{Point, Aim, Aims, Number, Root, Whole}
 use Rattle.commands.specs.Commands.{table, entryAt}
 use Rattle.commands.specs.Refusals.{noRefraction, noFactor}
 use Rattle.commands.specs.Effects.{ModelEffect, unless, settled}
@@ -22,7 +23,7 @@ use borrow.Author.Needs.{needs}
 use Rattle.commands.proofs.effects.late_effect.Statement.{statement}
 use Rattle.commands.proofs.effects.late_effect.Tie as tie
 
--- the effects that the functions in effects/ give for a vector, a pair or a number
+-- the effects that the functions in effects/ give for a vector, a pair, a number or a root
 abbrev points : Vec3 → ModelEffect
 points v = settled (Point v)
 
@@ -40,6 +41,9 @@ pairs p = settled (Aims (p .first) (p .second))
 
 abbrev numbers : Float → ModelEffect
 numbers x = settled (Number x)
+
+abbrev roots : MarkedRoot → ModelEffect
+roots r = settled (Root r)
 
 abbrev wholes : ℕ → ModelEffect
 wholes n = settled (Whole n)
@@ -112,8 +116,8 @@ late-effect-spec =
     (λ c. arm _ _ 23 (c .before .before .match .keys24) (c .refracted .ensures ∙ ap (refracts _ _) (c .before .from-bits6 .ensures)))
     (λ c. arm _ _ 24 (c .before .before .match .keys25) (c .directions .ensures ∙ ap pairs (c .before .any-orthonormal-pair .ensures)))
     (λ c. arm _ _ 25 (c .before .before .match .keys26) (c .number .ensures ∙ ap numbers (c .before .dot .ensures)))
-    (λ c. arm _ _ 26 (c .before .before .match .keys27) (c .number2 .ensures ∙ ap numbers (c .before .length .ensures)))
-    (λ c. arm _ _ 27 (c .before .before .match .keys28) (c .number3 .ensures ∙ ap numbers (c .before .distance .ensures)))
+    (λ c. arm _ _ 26 (c .before .before .match .keys27) (c .root .ensures ∙ ap roots (c .before .length-and-exactness .ensures)))
+    (λ c. arm _ _ 27 (c .before .before .match .keys28) (c .root2 .ensures ∙ ap roots (c .before .distance-and-exactness .ensures)))
     (λ c. arm _ _ 28 (c .before .match .keys29) (c .angle .ensures))
     (λ c. arm _ _ 29 (c .before .before .match .keys30) (c .whole .ensures ∙ ap wholes (c .before .min-position .ensures)))
     (λ c. arm _ _ 30 (c .before .before .match .keys31) (c .whole2 .ensures ∙ ap wholes (c .before .max-position .ensures)))

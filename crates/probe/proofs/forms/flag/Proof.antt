@@ -1,6 +1,6 @@
 -- `probe::forms::flag` meets its contract.
 use borrow.Author.Needs.{needs}
-use Rattle.probe.proofs.AnswerShows.{byte-is-bit}
+use Rattle.vector.proofs.meanings.MaskLaws.{byte-is-bit}
 use Rattle.probe.proofs.forms.flag.Statement.{statement}
 use Rattle.probe.proofs.forms.flag.Tie as tie
 
