@@ -2,10 +2,15 @@
 
 use crate::decimal;
 use crate::f32::math;
+use crate::roots::is_exact;
 use crate::{BVec3, Vec3, Vec4};
+use std::error::Error;
 
 /// The bits that stand for any NaN in an answer.
 pub const NAN: u32 = 2143289344;
+
+/// Numbers of functions are below this.
+const NUMBERS: usize = 122;
 
 /// The most numbers that a function's arguments and its results have.
 pub const MOST_ARGUMENTS: usize = 9;
@@ -49,11 +54,25 @@ pub struct Function {
 
 /// The function of a number.
 pub fn find(number: u32) -> Option<&'static Function> {
-    static PLACES: [u8; 120] = places();
+    static PLACES: [u8; NUMBERS] = places();
     match PLACES.get(number as usize) {
         Some(&place) => FUNCTIONS.get(place as usize),
         None => None,
     }
+}
+
+/// The functions of a list of numbers and ranges, as in 1-15,43.
+pub fn functions_of(list: &str) -> Result<Vec<&'static Function>, Box<dyn Error>> {
+    let mut chosen = Vec::new();
+    for part in list.split(',') {
+        let (low, high) = part.split_once('-').unwrap_or((part, part));
+        let (low, high): (u32, u32) = (low.parse()?, high.parse()?);
+        chosen.extend(FUNCTIONS.iter().filter(|function| (low..=high).contains(&function.number)));
+    }
+    if chosen.is_empty() {
+        return Err(format!("no function has a number of {list}").into());
+    }
+    Ok(chosen)
 }
 
 /// The function that a line calls, whatever its arguments are.
@@ -63,8 +82,8 @@ pub fn called_by(line: &[u8]) -> Option<&'static Function> {
 }
 
 /// For each number its place in the table, or one outside of it.
-const fn places() -> [u8; 120] {
-    let mut places = [u8::MAX; 120];
+const fn places() -> [u8; NUMBERS] {
+    let mut places = [u8::MAX; NUMBERS];
     let mut i = 0;
     while i < FUNCTIONS.len() {
         places[FUNCTIONS[i].number as usize] = i as u8;
@@ -198,6 +217,12 @@ impl Outcome for Option<Vec3> {
     }
 }
 
+/// A root, and whether it is exact: the Rust has no function that tells it. The Rust's `length` and `distance` take the root of what its
+/// `length_squared` and `distance_squared` give.
+fn and_exactness(root: f32, x: f32) -> (f32, bool) {
+    (root, is_exact(root, x))
+}
+
 macro_rules! table {
     ($($number:literal $name:literal ($($x:ident: $form:ty),*) -> $result:ty = $answer:expr;)*) => {
         pub static FUNCTIONS: &[Function] = &[$(Function {
@@ -234,6 +259,7 @@ table! {
     13 "is_finite" (x: f32) -> bool = x.is_finite();
     14 "is_nan" (x: f32) -> bool = x.is_nan();
     15 "is_sign_negative" (x: f32) -> bool = x.is_sign_negative();
+    16 "sqrt_and_exactness" (x: f32) -> (f32, bool) = and_exactness(math::sqrt(x), x);
 
     30 "BVec3 new" (x: bool, y: bool, z: bool) -> BVec3 = BVec3::new(x, y, z);
     31 "BVec3 splat" (x: bool) -> BVec3 = BVec3::splat(x);
@@ -323,4 +349,6 @@ table! {
     117 "ZERO" () -> Vec3 = Vec3::ZERO;
     118 "ONE" () -> Vec3 = Vec3::ONE;
     119 "X" () -> Vec3 = Vec3::X;
+    120 "length_and_exactness" (a: Vec3) -> (f32, bool) = and_exactness(a.length(), a.length_squared());
+    121 "distance_and_exactness" (a: Vec3, b: Vec3) -> (f32, bool) = and_exactness(a.distance(b), a.distance_squared(b));
 }

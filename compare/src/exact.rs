@@ -1,6 +1,6 @@
 //! Exact squared lengths and dot products of directions, without rounding.
 //!
-//! A finite f32 below 2 in size is m times 2^e times 2^-149 with m below 2^24 and e at most 126. A product of two is m·m' times
+//! A finite f32 is m times 2^e times 2^-149 with m below 2^24; below 2 in size e is at most 126. A product of two is m·m' times
 //! 2^(e + e') times 2^-298, so a sum of three fits a whole number of 320 bits in units of 2^-298.
 
 use std::cmp::Ordering;
@@ -38,6 +38,7 @@ impl Whole {
     }
 
     fn add_product(&mut self, x: f32, y: f32) {
+        assert!(x.abs() < 2.0 && y.abs() < 2.0, "components of directions");
         let ((m, e), (n, f)) = (parts(x), parts(y));
         self.add(x.is_sign_negative() != y.is_sign_negative(), m * n, e + f);
     }
@@ -57,9 +58,8 @@ impl Whole {
     }
 }
 
-/// m and e of a number below 2 in size.
-fn parts(x: f32) -> (u64, u32) {
-    assert!(x.abs() < 2.0, "a component of a direction");
+/// m and e of a finite number.
+pub fn parts(x: f32) -> (u64, u32) {
     let (exponent, digits) = ((x.to_bits() >> 23) & 0xff, u64::from(x.to_bits() & 0x7f_ffff));
     if exponent == 0 {
         (digits, 0)

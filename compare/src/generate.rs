@@ -2,6 +2,7 @@
 
 use crate::calls::{called_by, Form, Function};
 use crate::decimal;
+use crate::squares::{for_distance, for_length, for_root};
 use crate::values::{far_apart, float, measure, related, related_vector, unit_vector, vector, Draw, Vector};
 
 /// How many lines a piece has.
@@ -12,9 +13,6 @@ const SPOILED: u32 = 32;
 
 /// The functions that are meant for vectors of length 1.
 const FOR_UNIT_VECTORS: [u32; 7] = [76, 79, 80, 97, 98, 101, 102];
-
-/// The functions of two numbers that divide with a remainder: exponents far apart in half of their calls.
-const REMAINDERS: [u32; 3] = [9, 10, 11];
 
 /// Bytes that a spoiled line may have got.
 const BYTES: &[u8] = b" 0123456789 \t\r\0-+.,ex\xff";
@@ -89,9 +87,24 @@ impl Generator {
 
 /// Arguments for a function. Now and then a bool is above 1 or an index above 2.
 pub fn arguments(d: &mut Draw, function: &Function) -> Vec<u32> {
-    if REMAINDERS.contains(&function.number) && d.once_in(2) {
-        return far_apart(d).to_vec();
+    match function.number {
+        9..=11 | 16 | 120 | 121 if d.once_in(2) => own_arguments(d, function.number),
+        _ => any_arguments(d, function),
     }
+}
+
+/// Arguments that a function has in half of its calls: exponents far apart where it divides with a remainder; where it tells whether a
+/// root is exact, one that is or just is not.
+fn own_arguments(d: &mut Draw, number: u32) -> Vec<u32> {
+    match number {
+        16 => vec![for_root(d)],
+        120 => for_length(d).to_vec(),
+        121 => for_distance(d).concat(),
+        _ => far_apart(d).to_vec(),
+    }
+}
+
+fn any_arguments(d: &mut Draw, function: &Function) -> Vec<u32> {
     let unit = FOR_UNIT_VECTORS.contains(&function.number);
     let mut numbers: Vec<u32> = Vec::new();
     let mut vectors: Vec<Vector> = Vec::new();
@@ -171,7 +184,7 @@ fn spoiled(d: &mut Draw, line: &[u8]) -> Vec<u8> {
         _ => {
             let blank = line.iter().position(|&byte| byte == b' ').unwrap_or(line.len());
             let any = d.word();
-            let number = d.one_of(&[0, 16, 29, 37, 39, 120, 257, 65537, u32::MAX, any]);
+            let number = d.one_of(&[0, 17, 29, 37, 39, 122, 257, 65537, u32::MAX, any]);
             line.splice(..blank, number.to_string().into_bytes());
         }
     }

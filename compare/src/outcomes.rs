@@ -1,19 +1,30 @@
-//! The outcomes that a command can have: done, or refused by one of the numbers of the documents.
+//! The outcomes that a command can have: done, done with an exact root, or refused by one of the numbers of the documents.
 
-use crate::sheet::{used, COMMANDS, TAKE_BACK};
+use crate::sheet::{used, Answer, COMMANDS, EXACT_ROOT, TAKE_BACK};
 
-/// An outcome is 0 for a command done, or the number of its refusal, of which 11 is the last; 9 and 10 are no outcomes of a command.
-pub const OUTCOMES: usize = 12;
+/// An outcome is 0 for a command done, the number of its refusal, of which 11 is the last, or EXACT for a command done whose answer is of
+/// kind 5; 9 and 10 are no outcomes of a command.
+pub const EXACT: usize = 12;
+pub const OUTCOMES: usize = 13;
 
 /// The rows of a table of outcomes: one for each command, one for lines with a number above the last command, one for malformed lines.
 pub const ABOVE: usize = COMMANDS as usize;
 pub const MALFORMED: usize = ABOVE + 1;
+
+/// The outcome of a command that has this answer.
+pub fn outcome(answer: &Answer) -> usize {
+    match answer.kind {
+        EXACT_ROOT => EXACT,
+        _ => answer.refusal as usize,
+    }
+}
 
 /// Whether a row of the table can have an outcome.
 pub fn can_have(row: usize, outcome: usize) -> bool {
     let used = used(row as u32);
     match outcome {
         0 => row < ABOVE,
+        EXACT => matches!(row, 26 | 27),
         1 => row == MALFORMED,
         2 => row == ABOVE,
         3 => used.is_some_and(|used| used.t || used.a),

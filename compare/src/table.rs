@@ -1,18 +1,18 @@
 //! The table of a sitting: how often each command had each outcome, and the worst values.
 
-use crate::outcomes::{can_have, ABOVE, MALFORMED};
+use crate::outcomes::{can_have, ABOVE, EXACT, MALFORMED};
 use crate::sheet::COMMANDS;
 use crate::tally::Tally;
 use std::fmt;
 
-/// The outcomes that there are, in the order in which the documents have them checked.
-const ORDER: [usize; 10] = [0, 1, 2, 3, 11, 4, 5, 8, 7, 6];
+/// The outcomes that there are: done, done with an answer of kind 5, then in the order in which the documents have them checked.
+const ORDER: [usize; 11] = [0, EXACT, 1, 2, 3, 11, 4, 5, 8, 7, 6];
 
 /// The table, the worst values, and what should not have been.
 impl fmt::Display for Tally {
     fn fmt(&self, f: &mut fmt::Formatter) -> fmt::Result {
-        write!(f, "command      done")?;
-        for outcome in &ORDER[1..] {
+        write!(f, "command      done   kind 5")?;
+        for outcome in &ORDER[2..] {
             write!(f, "{outcome:>9}")?;
         }
         writeln!(f)?;

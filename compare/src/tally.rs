@@ -2,7 +2,7 @@
 
 use crate::check::Rust;
 use crate::exact::{dot, off_one, Size};
-use crate::outcomes::{can_have, ABOVE, MALFORMED, OUTCOMES};
+use crate::outcomes::{can_have, outcome, ABOVE, MALFORMED, OUTCOMES};
 use crate::sheet::lines::{read, write_answer};
 use crate::sheet::{changes, Answer, Command, Kind, Refusal, Sheet, TAKE_BACK};
 
@@ -61,7 +61,7 @@ impl Tally {
             self.panics.push(command);
             return Answer::refused(Refusal::Result);
         };
-        self.counts[(command.number as usize).min(ABOVE)][answer.refusal as usize] += 1;
+        self.counts[(command.number as usize).min(ABOVE)][outcome(&answer)] += 1;
         if answer.refusal == 0 && changes(command.number) {
             // 24 writes the row behind t too, and 33 may bring that one back
             let count = if matches!(command.number, 24 | TAKE_BACK) { 2 } else { 1 };

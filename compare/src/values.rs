@@ -134,7 +134,7 @@ pub fn short(d: &mut Draw) -> u32 {
     with_exponent(d, 97, 157) & (u32::MAX << (23 - digits))
 }
 
-/// The square of a short number: its root is exact.
+/// The square of a short number: its root is exact, or just not.
 fn square(d: &mut Draw) -> f64 {
     let root = exact(short(d));
     root * root

@@ -3,7 +3,7 @@
 mod standin;
 
 use compare::library::{kept, lists, Account, Library};
-use compare::sheet::TAKE_BACK;
+use compare::sheet::{EXACT_ROOT, TAKE_BACK};
 use compare::tally::Tally;
 use standin::{fresh, respond, run, run_on, step, FORM, LENT, RIGHT, WORDS};
 
@@ -55,7 +55,15 @@ fn mistakes_of_step_are_found() {
         TAKE_BACK => step(&mut w.to_vec(), n, out),
         _ => step(w, n, out),
     };
+    let no_exact_root = |w: &mut [u32], n: &[u32; 7], out: &mut [u32]| {
+        let refusal = step(w, n, out);
+        if let [0, 0, kind @ EXACT_ROOT, ..] = out {
+            *kind = 3;
+        }
+        refusal
+    };
     all_found(&[
+        ("kind 3 in place of 5", Library { step: no_exact_root, ..RIGHT }),
         ("nothing taken back", Library { step: nothing_taken_back, ..RIGHT }),
         ("sources exchanged", Library { step: |w, &[n, t, a, b, x, y, z], out| step(w, &[n, t, b, a, x, y, z], out), ..RIGHT }),
         ("the sheet left as it was", Library { step: |w, n, out| step(&mut w.to_vec(), n, out), ..RIGHT }),

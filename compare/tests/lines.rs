@@ -6,7 +6,7 @@ use compare::sitting::{named::LISTING, Sitting};
 use compare::tally::Tally;
 
 const ANSWERS: &str = "  0  0  1 1077936128 1082130432          0
-  0  0  3 1084227584          0          0
+  0  0  5 1084227584          0          0
   0  1  2 1058642330 1061997773          0
 ";
 

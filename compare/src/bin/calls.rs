@@ -1,12 +1,11 @@
 //! The command that compare/calls calls: compares a program with the Rust, writes samples, or answers lines by the Rust.
 
-use compare::calls::{called_by, Function, FUNCTIONS};
+use compare::calls::{called_by, functions_of, FUNCTIONS};
 use compare::check::{compare, Difference};
 use compare::command::{option, status, Outcome, PROBE};
 use compare::generate::Generator;
 use compare::{decimal, oracle};
 use std::env;
-use std::error::Error;
 use std::fs;
 use std::io::{self, BufRead, Write};
 use std::process::{Command, ExitCode};
@@ -42,20 +41,6 @@ fn run(mut words: Vec<String>) -> Outcome {
         [seed, count] => compare_and_tell(&program, Generator::new(seed.parse()?, functions), count.parse()?),
         _ => Err(USAGE.into()),
     }
-}
-
-/// The functions of a list of numbers and ranges.
-fn functions_of(list: &str) -> Result<Vec<&'static Function>, Box<dyn Error>> {
-    let mut chosen = Vec::new();
-    for part in list.split(',') {
-        let (low, high) = part.split_once('-').unwrap_or((part, part));
-        let (low, high): (u32, u32) = (low.parse()?, high.parse()?);
-        chosen.extend(FUNCTIONS.iter().filter(|function| (low..=high).contains(&function.number)));
-    }
-    if chosen.is_empty() {
-        return Err(format!("no function has a number of {list}").into());
-    }
-    Ok(chosen)
 }
 
 /// Answers the lines of standard input.

@@ -2,7 +2,12 @@
 
 use super::Row;
 
-/// An answer. The values of the kinds 0 to 3 are bits of f32 numbers.
+/// The kinds of answers that show no row: a number, a whole number, a root that is exact. Kinds of rows are below them.
+const NUMBER: u32 = 3;
+const WHOLE: u32 = 4;
+pub const EXACT_ROOT: u32 = 5;
+
+/// An answer. The values of the kinds 0 to 3 and 5 are bits of f32 numbers.
 #[derive(Clone, Copy, Debug, PartialEq, Eq)]
 pub struct Answer {
     pub refusal: u32,
@@ -24,12 +29,17 @@ impl Answer {
 
     /// Row 0, kind 3, the number first.
     pub fn number(x: f32) -> Answer {
-        Answer { refusal: 0, row: 0, kind: 3, values: [x.to_bits(), 0, 0] }
+        Answer { refusal: 0, row: 0, kind: NUMBER, values: [x.to_bits(), 0, 0] }
+    }
+
+    /// Row 0, kind 5, the number first.
+    pub fn exact_root(x: f32) -> Answer {
+        Answer { kind: EXACT_ROOT, ..Answer::number(x) }
     }
 
     /// Row 0, kind 4, the whole number itself.
     pub fn whole(n: u32) -> Answer {
-        Answer { refusal: 0, row: 0, kind: 4, values: [n, 0, 0] }
+        Answer { refusal: 0, row: 0, kind: WHOLE, values: [n, 0, 0] }
     }
 
     /// The six numbers of the answer.

@@ -1,5 +1,5 @@
-//! Document 01's plain sheet, written from the document over the Rust's own functions: rows, commands, answers, one step. It takes steps
-//! back as request a of document 02 has it.
+//! Document 01's plain sheet, written from the document over the Rust's own functions: rows, commands, answers, one step. As document 02
+//! has it, the sheet takes steps back (request a) and says which lengths and distances are exact roots (request c).
 
 mod answer;
 mod fields;
@@ -8,7 +8,7 @@ pub mod lines;
 pub mod stream;
 mod work;
 
-pub use answer::{Answer, Refusal};
+pub use answer::{Answer, Refusal, EXACT_ROOT};
 pub use fields::{changes, used, Used, COMMANDS, TAKE_BACK};
 pub use history::REMEMBERED;
 
@@ -121,6 +121,7 @@ impl Sheet {
                 self.write_pair(command.t, [first, second].map(|v| Row { kind: Kind::Direction, v }))
             }
             Effect::Number(x) => Answer::number(x),
+            Effect::ExactRoot(x) => Answer::exact_root(x),
             Effect::Whole(n) => Answer::whole(n),
             Effect::Show => Answer::shows(command.a, &a),
             Effect::TakeBack => self.take_back()?,

@@ -1,6 +1,7 @@
 //! What each command of the plain sheet works out, with the refusals 8, 7 and 6.
 
 use super::{Kind, Refusal, Row};
+use crate::roots::is_exact;
 use crate::Vec3;
 
 /// What a command does: to row t, or in its answer.
@@ -11,6 +12,8 @@ pub enum Effect {
     /// Directions for the rows t and t + 1.
     Pair(Vec3, Vec3),
     Number(f32),
+    /// A number that is an exact root.
+    ExactRoot(f32),
     Whole(u32),
     /// Shows a.
     Show,
@@ -59,8 +62,8 @@ pub fn work(number: u32, a: &Row, b: &Row, [u, v, w]: [f32; 3]) -> Result<Effect
             Ok(Effect::Pair(direction_of(first)?, direction_of(second)?))
         }
         25 => measure(a.dot(b)),
-        26 => measure(a.length()),
-        27 => measure(a.distance(b)),
+        26 => root(a.length(), a.length_squared()),
+        27 => root(a.distance(b), a.distance_squared(b)),
         28 if a.length_squared() == 0.0 || b.length_squared() == 0.0 => Err(Refusal::Direction),
         28 => measure(a.angle_between(b)),
         29 => Ok(Effect::Whole(a.min_position() as u32)),
@@ -87,6 +90,15 @@ fn measure(x: f32) -> Result<Effect, Refusal> {
         Ok(Effect::Number(x))
     } else {
         Err(Refusal::Result)
+    }
+}
+
+/// The root of x, if it is finite. Whether it is exact goes by the root alone: x may have been rounded.
+fn root(root: f32, x: f32) -> Result<Effect, Refusal> {
+    if is_exact(root, x) {
+        Ok(Effect::ExactRoot(root))
+    } else {
+        measure(root)
     }
 }
 

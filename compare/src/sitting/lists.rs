@@ -16,6 +16,7 @@ impl Sitting {
     /// times.
     pub fn begin(&mut self, most: u64) -> u64 {
         (self.sheet, self.last, self.back) = (Sheet::fresh(), None, 0);
+        self.planned.clear();
         let longest = self.draw.one_of(&LONGEST);
         u64::from(1 + self.draw.below(longest)).min(most)
     }

@@ -3,6 +3,7 @@
 mod back;
 mod choose;
 mod lists;
+mod measured;
 pub mod named;
 mod numbers;
 pub mod remembered;
@@ -15,12 +16,16 @@ use crate::values::{float, Draw};
 use back::{brought_back, Last, Manner};
 use choose::{row_fields, unused_row};
 use numbers::values;
+use std::collections::VecDeque;
 
 /// How many lines a piece has.
 const PIECE: u64 = 16_384;
 
 /// Within a run of 33 another command comes once in so many times.
 const WITHIN: u32 = 128;
+
+/// Once in so many times the points of a length or a distance are made for it.
+const MEASURED: u32 = 4;
 
 /// Numbers of commands that there are not.
 const NO_COMMANDS: [u32; 10] = [COMMANDS, COMMANDS + 1, 40, 63, 64, 99, 100, 255, 256, 999];
@@ -30,6 +35,8 @@ pub struct Sitting {
     /// The sheet as the lines so far leave it, and the last of their commands.
     sheet: Sheet,
     last: Last,
+    /// The commands that come next, where some are planned.
+    planned: VecDeque<Command>,
     /// One line in so many is malformed; none if it is 0.
     malformed: u32,
     /// How commands are taken back, and how many 33 of a run are still to come.
@@ -39,8 +46,8 @@ pub struct Sitting {
 
 impl Sitting {
     pub fn new(seed: u64, malformed: u32) -> Sitting {
-        let (draw, sheet) = (Draw::new(seed), Sheet::fresh());
-        Sitting { draw, sheet, last: None, malformed, manner: Manner::Searching, back: 0 }
+        let (draw, sheet, planned) = (Draw::new(seed), Sheet::fresh(), VecDeque::new());
+        Sitting { draw, sheet, last: None, planned, malformed, manner: Manner::Searching, back: 0 }
     }
 
     /// A sitting to be timed: no line is malformed, and little is taken back.
@@ -85,8 +92,11 @@ impl Sitting {
         self.last = self.sheet.try_run(command).map(|answer| (command.number, answer));
     }
 
-    /// A command: a 33 while a run of them lasts, else one that works; now and then such a one comes within a run.
+    /// A command: one that is planned, a 33 while a run of them lasts, else one that works; now and then such a one comes within a run.
     fn command(&mut self) -> Command {
+        if let Some(command) = self.planned.pop_front() {
+            return command;
+        }
         if self.back == 0 {
             self.back = self.manner.run(&mut self.draw, self.last);
         }
@@ -106,9 +116,20 @@ impl Sitting {
             2..=16 => self.command_of(1),
             _ => {
                 let number = d.below(TAKE_BACK);
+                if matches!(number, 26 | 27) && d.once_in(MEASURED) {
+                    return self.measured(number);
+                }
                 self.command_of(number)
             }
         }
+    }
+
+    /// A point that is made for a length or a distance; the other point and the measure come next.
+    fn measured(&mut self, number: u32) -> Command {
+        let (d, rows) = (&mut self.draw, self.sheet.rows());
+        let commands = if number == 26 { measured::length(d) } else { measured::distance(d, rows) };
+        self.planned = commands.into();
+        self.planned.pop_front().expect("it is not empty")
     }
 
     /// A command of a number.

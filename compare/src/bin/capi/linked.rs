@@ -1,10 +1,12 @@
 //! The functions of include/bench.h, in the library that build.rs finds.
 
+use compare::calls::NAN;
 use compare::library::Library;
 
 #[link(name = "capi", kind = "static")]
 extern "C" {
     fn bench_sqrt(x: f32) -> f32;
+    fn bench_sqrt_is_exact(x: f32) -> u32;
     fn bench_mul_add(a: f32, b: f32, c: f32) -> f32;
     fn bench_trunc(x: f32) -> f32;
     fn bench_floor(x: f32) -> f32;
@@ -30,23 +32,35 @@ extern "C" {
     fn bench_run_on(sheet: *mut u32, words: usize, commands: *const u32, count: usize, answers: *mut u32, lent: usize) -> u32;
 }
 
-/// A function on numbers: its number in docs/FUNCTIONS.md, and its call with the bits of its arguments.
+/// A function on numbers: the number of the function in docs/FUNCTIONS.md that has its result, the result's place there, and its call. The
+/// arguments and the result are bits, of a NaN those that stand for any.
 pub struct Scalar {
     pub number: u32,
-    pub call: fn(&[u32]) -> f32,
+    pub place: usize,
+    pub call: fn(&[u32]) -> u32,
 }
 
-pub static SCALARS: [Scalar; 6] = [
-    Scalar { number: 1, call: |n| unsafe { bench_sqrt(float(n[0])) } },
-    Scalar { number: 2, call: |n| unsafe { bench_mul_add(float(n[0]), float(n[1]), float(n[2])) } },
-    Scalar { number: 3, call: |n| unsafe { bench_trunc(float(n[0])) } },
-    Scalar { number: 4, call: |n| unsafe { bench_floor(float(n[0])) } },
-    Scalar { number: 5, call: |n| unsafe { bench_round(float(n[0])) } },
-    Scalar { number: 9, call: |n| unsafe { bench_rem(float(n[0]), float(n[1])) } },
+pub static SCALARS: [Scalar; 7] = [
+    Scalar { number: 1, place: 0, call: |n| unsafe { bits(bench_sqrt(float(n[0]))) } },
+    Scalar { number: 2, place: 0, call: |n| unsafe { bits(bench_mul_add(float(n[0]), float(n[1]), float(n[2]))) } },
+    Scalar { number: 3, place: 0, call: |n| unsafe { bits(bench_trunc(float(n[0]))) } },
+    Scalar { number: 4, place: 0, call: |n| unsafe { bits(bench_floor(float(n[0]))) } },
+    Scalar { number: 5, place: 0, call: |n| unsafe { bits(bench_round(float(n[0]))) } },
+    Scalar { number: 9, place: 0, call: |n| unsafe { bits(bench_rem(float(n[0]), float(n[1]))) } },
+    Scalar { number: 16, place: 1, call: |n| unsafe { bench_sqrt_is_exact(float(n[0])) } },
 ];
 
 fn float(bits: u32) -> f32 {
     f32::from_bits(bits)
+}
+
+/// The bits of a result.
+fn bits(x: f32) -> u32 {
+    if x.is_nan() {
+        NAN
+    } else {
+        x.to_bits()
+    }
 }
 
 /// The functions that run commands. An empty slice has a pointer that is not NULL, as the header wants it.

@@ -4,6 +4,7 @@ mod linked;
 mod scalars;
 mod timing;
 
+use compare::calls::{functions_of, FUNCTIONS};
 use compare::command::{status, Outcome};
 use compare::library::{kept, lists, Account};
 use compare::tally::Tally;
@@ -14,7 +15,8 @@ use std::process::ExitCode;
 const USAGE: &str = "usage:
   compare/capi SEED COUNT  COUNT calls of the functions on numbers, lists of COUNT commands from fresh sheets, and COUNT commands and
                            lines on sheets that are kept, by the seed
-  compare/capi --every     each function of one number on every number
+  compare/capi --every [NUMBERS]
+                           each function of one number on every number; those of these numbers alone, as in 1,16
   compare/capi --time TURNS COUNT
                            the time of a list of COUNT commands, beside the plain sheet's";
 
@@ -27,7 +29,14 @@ fn run(words: &[&str]) -> Outcome {
     let mut account = Account::default();
     let sound = match *words {
         ["--every"] => {
-            scalars::compare_every(&mut account);
+            scalars::compare_every(&mut account, FUNCTIONS.iter().collect());
+            true
+        }
+        ["--every", numbers] => {
+            scalars::compare_every(&mut account, functions_of(numbers)?);
+            if account.compared == 0 {
+                return Err("the library has none of these as a function of one number".into());
+            }
             true
         }
         ["--time", turns, count] => {

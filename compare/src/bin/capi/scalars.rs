@@ -1,7 +1,7 @@
 //! The functions on numbers, held against the Rust's. A NaN counts as any NaN.
 
 use crate::linked::{Scalar, SCALARS};
-use compare::calls::{find, Function, NAN};
+use compare::calls::{find, Function};
 use compare::generate::arguments;
 use compare::library::Account;
 use compare::values::Draw;
@@ -16,11 +16,10 @@ pub fn compare(account: &mut Account, seed: u64, count: u64) {
     println!("{count} calls of {} functions on numbers", SCALARS.len());
 }
 
-/// Calls each function of one number on every number.
-pub fn compare_every(account: &mut Account) {
-    for scalar in &SCALARS {
-        let rust = rust_of(scalar);
-        if rust.arguments == 1 {
+/// Calls those of the functions that are in the library and take one number, on every number.
+pub fn compare_every(account: &mut Account, functions: Vec<&Function>) {
+    for rust in functions.iter().filter(|function| function.arguments == 1) {
+        if let Some(scalar) = SCALARS.iter().find(|scalar| scalar.number == rust.number) {
             (0..=u32::MAX).for_each(|bits| call_both(account, scalar, rust, &[bits]));
             println!("{} of every number", rust.name);
         }
@@ -32,8 +31,8 @@ fn rust_of(scalar: &Scalar) -> &'static Function {
 }
 
 fn call_both(account: &mut Account, scalar: &Scalar, rust: &Function, arguments: &[u32]) {
-    let right = (rust.call)(arguments)[0];
+    let right = (rust.call)(arguments)[scalar.place];
     let result = (scalar.call)(arguments);
-    let bits = if result.is_nan() { NAN } else { result.to_bits() };
-    account.note(bits == right, || format!("{} of {arguments:08x?}\nthe Rust  {right:08x}\nlibrary   {bits:08x}", rust.name));
+    account
+        .note(result == right, || format!("{} of {arguments:08x?}\nthe Rust  {right:08x}\nlibrary   {result:08x}", rust.name));
 }
