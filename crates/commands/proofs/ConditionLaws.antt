@@ -10,9 +10,9 @@ use lib.Ieee.{binary32, ofBits}
 use Rattle.commands.specs.declared.command.Command.{Command}
 use Rattle.laws.proofs.numbers.BoolLaws.{and-false}
 use Rattle.commands.specs.Codes.{last, undo, rowCount}
-use Rattle.commands.specs.Fields.{Sources}
+use Rattle.commands.specs.Fields.{isUsed, Sources}
 use Rattle.commands.specs.Commands.{entryAt}
-use Rattle.commands.specs.Refusals.{Refusal, refuses, first, early, late, refusals, refusalOf, unknown, noRow, nothingRemembered, badSource, badValue, noRefraction, noDirection, notFinite}
+use Rattle.commands.specs.Refusals.{Refusal, refuses, first, early, late, refusals, refusalOf, unknown, noRow, nothingRemembered, badSource, badValue, noRefraction, noDirection, noMeeting, notFinite}
 
 -- a test that failed, as a type
 pub denied : (b : Bool) → b ≡ false → T (not b)
@@ -37,6 +37,13 @@ none-of-four p q r s e =
     let front = none-of-two p q (third .0) in
     record { first-not = front .0; second-not = front .1; third-not = third .1; fourth-not = last .1 }
 
+pub record NoneOfFive (p q r s t : Bool) : Type 0 where
+  pub front : NoneOfFour p q r s
+  pub fifth-not : t ≡ false
+
+pub none-of-five : (p q r s t : Bool) → (p || q || r || s || t) ≡ false → NoneOfFive p q r s t
+none-of-five p q r s t e = let last = none-of-two (p || q || r || s) t e in record { front = none-of-four p q r s (last .0); fifth-not = last .1 }
+
 -- a condition with a premise that is met
 pub met : (p q : Bool) → p ≡ true → (p && q) ≡ false → q ≡ false
 met true q t e = e
@@ -53,10 +60,11 @@ pub record Done (c : Command) (m : Bool) (s : Sources) : Type 0 where
   pub known : unknown (c .number) ≡ false
   pub rows-there : noRow c ≡ false
   pub remembered : nothingRemembered (c .number) m ≡ false
-  pub sources-fit : badSource (c .number) (s .a .kind) (s .b .kind) ≡ false
+  pub sources-fit : badSource (c .number) (s .a .kind) (s .b .kind) (s .row .kind) ≡ false
   pub values-fit : badValue (c .number) (ofBits binary32 (c .u)) (ofBits binary32 (c .v)) (ofBits binary32 (c .w)) ≡ false
   pub refracts : noRefraction (c .number) s ≡ false
   pub directed : noDirection (c .number) s ≡ false
+  pub meets : noMeeting (c .number) s ≡ false
   pub finite-result : notFinite (entryAt (c .number) .result s) ≡ false
 
 pub done : (c : Command) (m : Bool) (s : Sources) → refusalOf c m s ≡ 0 → Done c m s
@@ -69,8 +77,9 @@ done c m s e =
     let r5 = none-first 4 _ _ (r4 .1) in
     let r8 = none-first 7 _ _ (r5 .1) in
     let r7 = none-first 6 _ _ (r8 .1) in
-    let r6 = none-first 5 _ _ (r7 .1) in
-    record { known = r2 .0; rows-there = r3 .0; remembered = r11 .0; sources-fit = r4 .0; values-fit = r5 .0; refracts = r8 .0; directed = r7 .0; finite-result = r6 .0 }
+    let r12 = none-first 11 _ _ (r7 .1) in
+    let r6 = none-first 5 _ _ (r12 .1) in
+    record { known = r2 .0; rows-there = r3 .0; remembered = r11 .0; sources-fit = r4 .0; values-fit = r5 .0; refracts = r8 .0; directed = r7 .0; meets = r12 .0; finite-result = r6 .0 }
 
 -- ---- 11
 pub some-remembered : (n : ℕ) → nothingRemembered n true ≡ false
@@ -91,8 +100,10 @@ pub rows-there : (c : Command) → noRow c ≡ false → RowsThere c
 unfolding noRow
 rows-there c h =
     let uses = entryAt (c .number) .uses in
-    let none = none-of-four (uses .t && ltb 63 (c .t)) (uses .a && ltb 63 (c .a)) (uses .b && ltb 63 (c .b)) (eqb (c .number) 24 && eqb (c .t) 63) h in
+    let none =
+    none-of-five (uses .t && ltb 63 (c .t)) (isUsed (uses .a) && ltb 63 (c .a)) (isUsed (uses .b) && ltb 63 (c .b)) (isUsed (uses .row) && ltb 63 (c .u))
+    (eqb (c .number) 24 && eqb (c .t) 63) h in
     record {
-      target = λ u. let l = ltb-false 63 (c .t) (met (uses .t) (ltb 63 (c .t)) u (none .first-not)) in omega arith;
-      next = λ e. eqb-false (c .t) 63 (met (eqb (c .number) 24) (eqb (c .t) 63) (eq-eqb (c .number) 24 e) (none .fourth-not));
+      target = λ u. let l = ltb-false 63 (c .t) (met (uses .t) (ltb 63 (c .t)) u (none .front .first-not)) in omega arith;
+      next = λ e. eqb-false (c .t) 63 (met (eqb (c .number) 24) (eqb (c .t) 63) (eq-eqb (c .number) 24 e) (none .fifth-not));
     }

@@ -2,27 +2,38 @@
 use Prim.Native.Nat.{ℕ, suc, _+_, _≤_}
 use mathlib.Core.Path.{_≡_}
 use mathlib.Core.List.{List, [], _∷_}
-use lib.Dec.{T}
+use mathlib.Core.Bool.{Bool, _||_}
+use lib.Dec.{T, eqb}
 use lib.ListN.{length}
-use Rattle.vector.specs.Vectors.{ZERO}
+use lib.Ieee.{binary32, fits}
+use lib.Ieee.Scale.{finite}
+use Rattle.vector.specs.Vectors.{zer, ZERO}
 use Rattle.vector.specs.ExactVectors.{F32Vec, FiniteVec, Direction, NearlyOrthogonal}
 use Rattle.commands.specs.declared.command.Command.{Command}
-use Rattle.commands.specs.Codes.{rowCount, emptyKind, directionKind, historyDepth}
+use Rattle.commands.specs.Codes.{rowCount, emptyKind, pointKind, directionKind, planeKind, historyDepth}
 use Rattle.commands.specs.Rows.{ModelRow, Snapshot, State, rowAt, fresh}
 use Rattle.commands.specs.Fields.{Sources, sourcesOf}
 use Rattle.commands.specs.Commands.{entryAt}
 use Rattle.commands.specs.Refusals.{refusalOf}
 use Rattle.commands.specs.Answers.{ModelAnswer, refused}
-use Rattle.commands.specs.Model.{stepped, isSome, stepOf, runFrom}
+use Rattle.commands.specs.Model.{stepped, isSome, readAt, stepOf, runFrom}
 
--- "each empty (kind 0, its numbers +0), a point (1) or a direction (2)"; "every number in a row is finite and the exact squared length of every direction lies
--- within 2^-18 of 1"
+-- "each empty (kind 0, its numbers +0), a point (1) or a direction (2)"; "A row may be a plane (kind 6)"
+abbrev pub isRowKind : ℕ → Bool
+isRowKind k = eqb k emptyKind || eqb k pointKind || eqb k directionKind || eqb k planeKind
+
+-- "every number in a row is finite and the exact squared length of every direction lies within 2^-18 of 1"; "The bound on directions takes in normals"; "every row
+-- holds four numbers, the fourth 0 in other kinds"
 pub record SoundRow (r : ModelRow) : Type 0 where
-  pub known-kind : r .kind ≤ directionKind
+  pub known-kind : T (isRowKind (r .kind))
   pub zeros : r .kind ≡ emptyKind → r .numbers ≡ ZERO
   pub values : F32Vec (r .numbers)
   pub numbers-finite : FiniteVec (r .numbers)
   pub unit : r .kind ≡ directionKind → Direction (r .numbers)
+  pub normal : r .kind ≡ planeKind → Direction (r .numbers)
+  pub offset-value : T (fits binary32 (r .offset))
+  pub offset-finite : T (finite (r .offset))
+  pub no-offset : (r .kind ≡ planeKind → ⊥) → r .offset ≡ zer
 
 pub record SoundRows (rows : List ModelRow) : Type 0 where
   pub count : length rows ≡ rowCount
@@ -41,7 +52,7 @@ pub record Sound (s : State) : Type 0 where
 
 -- what a command reads in a state, and its refusal there, 0 where there is none: "A command is done if it is not refused"
 abbrev pub sourcesAt : State → Command → Sources
-sourcesAt s c = sourcesOf c (rowAt (s .rows) (c .a)) (rowAt (s .rows) (c .b))
+sourcesAt s c = sourcesOf c (readAt s c)
 
 abbrev pub refusalAt : State → Command → ℕ
 refusalAt s c = refusalOf c (isSome (s .history)) (sourcesAt s c)

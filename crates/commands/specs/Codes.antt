@@ -7,12 +7,9 @@ rowCount = 64
 
 -- the highest command in use
 abbrev pub last : ℕ
-last = 33
+last = 37
 
--- the highest of the commands that write rows, "0 to 24", and the one that takes them back
-abbrev pub lastWriting : ℕ
-lastWriting = 24
-
+-- the one that takes back
 abbrev pub undo : ℕ
 undo = 33
 
@@ -41,6 +38,10 @@ wholeKind = 4
 -- "commands 26 and 27 answer kind 5 in place of 3 when the last root was exact"
 abbrev pub exactKind : ℕ
 exactKind = 5
+
+-- "A row may be a plane (kind 6)"
+abbrev pub planeKind : ℕ
+planeKind = 6
 
 -- ---- refusals ("Refused, and by whose doing"); 0 stands for none
 -- "1, not 45 bytes before a line feed, or a field ill formed"
@@ -82,3 +83,7 @@ lentTooShort = 9
 -- "Command 33 with nothing remembered is refused by 11"
 abbrev pub historyEmpty : ℕ
 historyEmpty = 11
+
+-- "a computed n·b of zero by 12"
+abbrev pub lineParallel : ℕ
+lineParallel = 12

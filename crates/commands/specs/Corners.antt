@@ -1,5 +1,5 @@
 -- All marked corners of document 01 in one computed check: those of scalars and of vectors, and those of the sheet with its listing, run on the reference
--- model; and corners of document 02's a (command 33) and c (exact roots). Values are bits.
+-- model; and corners of document 02's a (command 33), c (exact roots) and d (planes). Values are bits.
 use mathlib.Core.Path.{_≡_, refl}
 use mathlib.Core.List.{List, [], _∷_, _++_}
 use Prim.Native.Nat.{ℕ}
@@ -23,58 +23,34 @@ use Rattle.vector.specs.Optics as Optics
 use Rattle.vector.specs.Orthogonal as Orthogonal
 use Rattle.commands.specs.declared.command.Command.{Command}
 use Rattle.commands.specs.Rows as Rows
+use Rattle.commands.specs.Fields as Fields
 use Rattle.commands.specs.Commands as Commands
 use Rattle.commands.specs.Effects as Effects
 use Rattle.commands.specs.Results as Results
 use Rattle.commands.specs.Refusals as Refusals
-use Rattle.commands.specs.Answers.{ModelAnswer, refused}
-use Rattle.commands.specs.Rows.{fresh}
+use Rattle.commands.specs.Answers.{refused}
 use Rattle.commands.specs.Model as Model
-use Rattle.commands.specs.Model.{runFrom}
-
-abbrev command : ℕ → ℕ → ℕ → ℕ → ℕ → ℕ → ℕ → Command
-command n t a b u v w = record { number = n; t = t; a = a; b = b; u = u; v = v; w = w }
-
-abbrev answer : ℕ → ℕ → ℕ → ℕ → ℕ → ℕ → ModelAnswer
-answer k i kind x y z = record { refusal = k; row = i; kind = kind; x = x; y = y; z = z }
+use Rattle.commands.specs.Sittings.{command, answer, aimed, pointInto, back, lastOf, answersTo}
+use Rattle.commands.specs.PlaneCorners.{PlaneCorners, plane-corners}
 
 -- document 01's listing
 abbrev listing : List Command
 listing = command 1 0 0 0 1077936128 1082130432 0 ∷ command 26 0 0 0 0 0 0 ∷ command 2 1 0 0 0 0 0 ∷ []
 
--- a point in row 0, and its direction in row 1
-abbrev aimed : ℕ → ℕ → ℕ → List Command
-aimed x y z = command 1 0 0 0 x y z ∷ command 2 1 0 0 0 0 0 ∷ []
-
 -- the directions (1, 0, 0) in row 1 and (0, 1, 0) in row 3, and 23 on them
 abbrev refracted : ℕ → List Command
 refracted u = aimed 0x3f800000 0 0 ++ (command 1 2 0 0 0 0x3f800000 0 ∷ command 2 3 2 0 0 0 0 ∷ command 23 4 1 3 u 0 0 ∷ [])
-
--- the point (x, 0, 0) into row t, and a 33, with fields that it does not use
-abbrev pointInto : ℕ → ℕ → Command
-pointInto t x = command 1 t 0 0 x 0 0
-
-abbrev back : Command
-back = command 33 999 999 999 0x7fc00000 0x7fc00000 0x7fc00000
 
 -- (0, 0, 1) in row 0 and its direction in row 1, a point in row 3, and the pair of 24 in rows 2 and 3
 abbrev paired : List Command
 paired = aimed 0 0 0x3f800000 ++ (pointInto 3 0x40000000 ∷ command 24 2 1 0 0 0 0 ∷ [])
 
--- the last answer
-abbrev lastOf : List ModelAnswer → ModelAnswer
-lastOf [] = refused 0
-lastOf (x ∷ []) = x
-lastOf (x ∷ y ∷ xs) = lastOf (y ∷ xs)
-
--- the answers from a fresh sheet
-abbrev answersTo : List Command → List ModelAnswer
-answersTo cs = runFrom fresh cs .answers
-
 pub record Corners : Type 0 where
   -- the marked corners of scalars and of vectors
   scalars : ScalarCorners
   vectors : VectorCorners
+  -- those of planes
+  planes : PlaneCorners
   -- "(the point (3, 4, 0), its length, its direction) prints"; "In document 01's listing the second answer becomes kind 5"
   listed :
       answersTo listing
@@ -99,7 +75,7 @@ pub record Corners : Type 0 where
   quarter-taken : lastOf (answersTo (refracted 0x3e800000)) .refusal ≡ 0
   below-quarter : lastOf (answersTo (refracted 0x3e7fffff)) ≡ refused 5
   -- document 02, a: "From here on refusal 2 begins above the highest command in use"
-  above-last : answersTo (command 34 0 0 0 0 0 0 ∷ []) ≡ refused 2 ∷ []
+  above-last : answersTo (command 38 0 0 0 0 0 0 ∷ []) ≡ refused 2 ∷ []
   -- "Command 33 with nothing remembered is refused by 11", whatever its fields
   nothing-yet : answersTo (command 33 0 0 0 0 0 0 ∷ back ∷ []) ≡ refused 11 ∷ refused 11 ∷ []
   -- "the answer shows that command's row t as it is now": empty, or what a mistyped target had overwritten
@@ -138,10 +114,11 @@ pub record Corners : Type 0 where
   angle-plain : lastOf (answersTo (listing ++ (command 28 0 0 0 0 0 0 ∷ []))) ≡ answer 0 0 3 0 0 0
 
 pub corners : Corners
-unfolding Model.runBy Model.stepOf Model.applied Model.remembering Model.restored Effects.effectOf Effects.directionIn Effects.unlessRefused Effects.commandEffect Rows.fresh Rows.rowAt Rows.withRow Commands.table Commands.entryAt Commands.allows Results.directionOf Refusals.unknown Refusals.noRow Refusals.nothingRemembered Refusals.badSource Refusals.outOfOrder Refusals.outOfRange Refusals.badValue Refusals.noRefraction Refusals.isNothing Refusals.lacksDirection Refusals.noFactor Refusals.noDirection Refusals.notFinite Refusals.first Refusals.early Refusals.late Refusals.refusals Refusals.refusalOf Comparisons.isFinite Normalizing.tryNormalize Normalizing.usable Products.length Products.lengthAndExactness Products.distanceAndExactness Products.lengthSquared Products.lengthRecip Products.dot Operators.mulNumber Operators.numberMul Operators.sub Optics.refract Optics.refractK Optics.angleBetween Acos.acosApprox Orthogonal.anyOrthonormalPair Sign.signum Sign.copysign Sign.abs ExactRoot.exactRoot ExactRoot.rootAndExactness Root.root Root.rootUnits WholeRoot.wholeRoot Exact.sizeIn Exact.negative Ieee.round Ieee.neg Ieee.div Ieee.sub Ieee.le Ieee.lt Ieee.eq Ieee.add Ieee.sum Ieee.mul Ieee.ofBits Ieee.toBits
+unfolding Model.runBy Model.stepOf Model.applied Model.remembering Model.restored Effects.effectOf Effects.directionIn Effects.unlessRefused Effects.commandEffect Rows.fresh Rows.rowAt Rows.withRow Commands.table Commands.entryAt Fields.allows Results.directionOf Refusals.unknown Refusals.noRow Refusals.nothingRemembered Refusals.badSource Refusals.outOfOrder Refusals.outOfRange Refusals.badValue Refusals.noRefraction Refusals.isNothing Refusals.lacksDirection Refusals.noFactor Refusals.noDirection Refusals.noMeeting Refusals.notFinite Refusals.first Refusals.early Refusals.late Refusals.refusals Refusals.refusalOf Comparisons.isFinite Normalizing.tryNormalize Normalizing.usable Products.length Products.lengthAndExactness Products.distanceAndExactness Products.lengthSquared Products.lengthRecip Products.dot Operators.mulNumber Operators.numberMul Operators.sub Optics.refract Optics.refractK Optics.angleBetween Acos.acosApprox Orthogonal.anyOrthonormalPair Sign.signum Sign.copysign Sign.abs ExactRoot.exactRoot ExactRoot.rootAndExactness Root.root Root.rootUnits WholeRoot.wholeRoot Exact.sizeIn Exact.negative Ieee.round Ieee.neg Ieee.div Ieee.sub Ieee.le Ieee.lt Ieee.eq Ieee.add Ieee.sum Ieee.mul Ieee.ofBits Ieee.toBits
 corners = record {
   scalars = Scalars.corners;
   vectors = Vectors.corners;
+  planes = plane-corners;
   listed = refl;
   all-empty = refl;
   emptied = refl;

@@ -1,4 +1,4 @@
--- What a command comes to on the two rows that it reads: rows to write or to bring back, or an answer alone.
+-- What a command comes to on the rows that it reads: rows to write or to bring back, or an answer alone.
 use Prim.Native.Nat.{ℕ}
 use mathlib.Core.Bool.{Bool, cond}
 use lib.Dec.{eqb}
@@ -10,9 +10,9 @@ use Rattle.commands.specs.declared.command.Command.{Command}
 use Rattle.commands.specs.declared.effects.Effect.{Effect}
 use Rattle.commands.specs.declared.effects.Effect.the-variants.{Tell, Put, PutTwo, Restore}
 use Rattle.commands.specs.Codes.{resultInfinite, directionMissing}
-use Rattle.commands.specs.Rows.{ModelRow, empty, point, direction}
-use Rattle.commands.specs.Fields.{Sources, sourcesOf}
-use Rattle.commands.specs.Results.{Result, Empties, Point, Aim, Aims, Number, Root, Whole, Shows, Undoes, directionOf}
+use Rattle.commands.specs.Rows.{ModelRow, row, empty, point, direction, plane}
+use Rattle.commands.specs.Fields.{Read, Sources, sourcesOf}
+use Rattle.commands.specs.Results.{Result, Empties, Point, Aim, Aims, Plane, Number, Root, Whole, Shows, Undoes, directionOf}
 use Rattle.commands.specs.Commands.{entryAt}
 use Rattle.commands.specs.Refusals.{first, late, refusalOf, lacksDirection, notFinite}
 use Rattle.commands.specs.Answers.{ModelAnswer, refused, shown, number, rootAnswer, whole, answerOf}
@@ -35,6 +35,7 @@ effectOf Empties = Puts empty
 effectOf (Point v) = Puts (point v)
 effectOf (Aim v) = Puts (direction (directionIn (directionOf v)))
 effectOf (Aims v w) = PutsTwo (direction (directionIn (directionOf v))) (direction (directionIn (directionOf w)))
+effectOf (Plane n o) = Puts (plane n o)
 effectOf (Number x) = Tells (number x)
 effectOf (Root r) = Tells (rootAnswer r)
 effectOf (Whole n) = Tells (whole n)
@@ -45,9 +46,9 @@ effectOf Undoes = Restores
 unfoldable pub unlessRefused : ℕ → ModelEffect → ModelEffect
 unlessRefused k e = cond (eqb k 0) e (Tells (refused k))
 
--- a command on the rows of its sources, where something or nothing is remembered: refused, or what it works out
-unfoldable pub commandEffect : Command → ModelRow → ModelRow → Bool → ModelEffect
-commandEffect c a b remembers = let s = sourcesOf c a b in unlessRefused (refusalOf c remembers s) (effectOf (entryAt (c .number) .result s))
+-- a command on the rows that it reads, where something or nothing is remembered: refused, or what it works out
+unfoldable pub commandEffect : Command → Read → Bool → ModelEffect
+commandEffect c r remembers = let s = sourcesOf c r in unlessRefused (refusalOf c remembers s) (effectOf (entryAt (c .number) .result s))
 
 -- ---- what functions inside the crate promise each other
 -- refusal k where its condition holds
@@ -65,6 +66,6 @@ lateEffect c s = unlessRefused (first (late (c .number) s)) (effectOf (entryAt (
 -- the effect that the program's stands for
 unfoldable pub effectBy : Effect → ModelEffect
 effectBy (Tell x) = Tells (answerOf x)
-effectBy (Put k v) = Puts (record { kind = k; numbers = v })
+effectBy (Put k v o) = Puts (row k v o)
 effectBy (PutTwo v w) = PutsTwo (direction v) (direction w)
 effectBy Restore = Restores

@@ -2,6 +2,7 @@
 pub mod Codes
 pub mod Rows
 pub mod Fields
+pub mod Planes
 pub mod Results
 pub mod Commands
 pub mod Refusals
@@ -12,4 +13,6 @@ pub mod CommandSets
 pub mod Claim
 pub mod HistoryMeaning
 pub mod RootAnswers
+pub mod Sittings
+pub mod PlaneCorners
 pub mod Corners

@@ -6,6 +6,7 @@ use lib.ListN.{take}
 use Rattle.commands.specs.declared.command.Command.{Command}
 use Rattle.commands.specs.Codes.{historyDepth, historyEmpty}
 use Rattle.commands.specs.Rows.{ModelRow, Snapshot, State, rowAt, withRow}
+use Rattle.commands.specs.Fields.{Read}
 use Rattle.commands.specs.Answers.{ModelAnswer, refused, shown}
 use Rattle.commands.specs.Effects.{ModelEffect, Puts, PutsTwo, Restores, Tells, commandEffect}
 
@@ -44,8 +45,11 @@ isSome [] = false
 isSome (p ∷ rest) = true
 
 -- one command: "sources are read before anything is written"; "No refusal changes a row"
+abbrev pub readAt : State → Command → Read
+readAt s c = record { a = rowAt (s .rows) (c .a); b = rowAt (s .rows) (c .b); row = rowAt (s .rows) (c .u) }
+
 abbrev pub effectOn : State → Command → ModelEffect
-effectOn s c = commandEffect c (rowAt (s .rows) (c .a)) (rowAt (s .rows) (c .b)) (isSome (s .history))
+effectOn s c = commandEffect c (readAt s c) (isSome (s .history))
 
 unfoldable pub stepOf : State → Command → Stepped State
 stepOf s c = applied s (c .t) (effectOn s c)

@@ -1,5 +1,5 @@
 -- The refusals of a command (document 01, "Refused, and by whose doing"), each with its condition, in the order in which they are checked: "2, 3, 4, 5, 8, 7, 6",
--- and 11 "checked after 3" (document 02, a).
+-- 11 "checked after 3" (document 02, a) and 12 "checked just before 6" (d).
 use Prim.Native.Nat.{ℕ}
 use mathlib.Core.Bool.{Bool, true, false, cond, not, _&&_, _||_}
 use mathlib.Core.List.{List, [], _∷_, _++_}
@@ -14,31 +14,37 @@ use Rattle.vector.specs.Projections.{otherLenSqRcp}
 use Rattle.vector.specs.Optics.{refractK}
 use Rattle.vector.specs.AssertLaws.{zeroLength}
 use Rattle.commands.specs.declared.command.Command.{Command}
-use Rattle.commands.specs.Codes.{last, undo, pointKind, unknownCommand, rowOutside, unfitSource, valueOutside, resultInfinite, directionMissing, allReflected, historyEmpty}
+use Rattle.commands.specs.Codes.{last, undo, pointKind, unknownCommand, rowOutside, unfitSource, valueOutside, resultInfinite, directionMissing, allReflected, historyEmpty, lineParallel}
 use Rattle.commands.specs.Rows.{ModelRow}
-use Rattle.commands.specs.Fields.{Sources}
-use Rattle.commands.specs.Results.{Result, Empties, Point, Aim, Aims, Number, Root, Whole, Shows, Undoes, directionOf}
-use Rattle.commands.specs.Commands.{allows, entryAt}
+use Rattle.commands.specs.Fields.{isUsed, allows, Sources}
+use Rattle.commands.specs.Planes.{isParallel}
+use Rattle.commands.specs.Results.{Result, Empties, Point, Aim, Aims, Plane, Number, Root, Whole, Shows, Undoes, directionOf}
+use Rattle.commands.specs.Commands.{entryAt}
 
 -- "2, command above 32"; "refusal 2 begins above the highest command in use"
 unfoldable pub unknown : ℕ → Bool
 unknown n = ltb last n
 
--- "3, a used row above 63, or t = 63 in 24"
+-- "3, a used row above 63, or t = 63 in 24"; "A field u above 63 in 36 is refused by 3"
 unfoldable pub noRow : Command → Bool
 noRow c =
     let uses = entryAt (c .number) .uses in
-    uses .t && ltb 63 (c .t) || uses .a && ltb 63 (c .a) || uses .b && ltb 63 (c .b) || eqb (c .number) 24 && eqb (c .t) 63
+    uses .t && ltb 63 (c .t)
+    || isUsed (uses .a) && ltb 63 (c .a)
+    || isUsed (uses .b) && ltb 63 (c .b)
+    || isUsed (uses .row) && ltb 63 (c .u)
+    || eqb (c .number) 24 && eqb (c .t) 63
 
 -- "Command 33 with nothing remembered is refused by 11, checked after 3"
 unfoldable pub nothingRemembered : ℕ → Bool → Bool
 nothingRemembered n remembers = eqb n undo && not remembers
 
--- "4, a source empty, or no direction in 22 to 24"
-unfoldable pub badSource : ℕ → ℕ → ℕ → Bool
-badSource n kindA kindB =
-    let e = entryAt n in
-    e .uses .a && not (allows (e .takes) kindA) || e .uses .b && not (allows (e .takes) kindB)
+-- "4, a source empty, or no direction in 22 to 24"; "A row called point, direction or plane here must be of that kind, else 4; earlier commands refuse a plane as a
+-- source by 4, but for 32"
+unfoldable pub badSource : ℕ → ℕ → ℕ → ℕ → Bool
+badSource n kindA kindB kindRow =
+    let uses = entryAt n .uses in
+    not (allows (uses .a) kindA) || not (allows (uses .b) kindB) || not (allows (uses .row) kindRow)
 
 -- 0.25 and 4
 abbrev pub quarter : Float
@@ -71,6 +77,7 @@ isNothing Nothing = true
 unfoldable pub lacksDirection : Result → Bool
 lacksDirection (Aim v) = isNothing (directionOf v)
 lacksDirection (Aims v w) = isNothing (directionOf v) || isNothing (directionOf w)
+lacksDirection (Plane n o) = false
 lacksDirection Empties = false
 lacksDirection (Point v) = false
 lacksDirection (Number x) = false
@@ -88,7 +95,11 @@ noDirection n s =
     || eqb n 28 && (zeroLength (s .a .numbers) || zeroLength (s .b .numbers))
     || lacksDirection (entryAt n .result s)
 
--- "6, a point or number result not finite"
+-- "a computed n·b of zero by 12", in 36
+unfoldable pub noMeeting : ℕ → Sources → Bool
+noMeeting n s = eqb n 36 && isParallel (s .b .numbers) (s .row)
+
+-- "6, a point or number result not finite"; "an offset not finite by 6"
 unfoldable pub notFinite : Result → Bool
 notFinite (Point v) = not (isFinite v)
 notFinite (Number x) = not (finite x)
@@ -96,6 +107,7 @@ notFinite (Root r) = not (finite (r .root))
 notFinite Empties = false
 notFinite (Aim v) = false
 notFinite (Aims v w) = false
+notFinite (Plane n o) = not (finite o)
 notFinite (Whole n) = false
 notFinite (Shows i r) = false
 notFinite Undoes = false
@@ -114,12 +126,12 @@ first [] = 0
 first (r ∷ rest) = cond (r .holds) (r .number) (first rest)
 
 -- "Checked in the order .. 2, 3, 4, 5, 8, 7, 6": those that the fields, the history and the sources' kinds decide, then those that the work decides
-unfoldable pub early : Command → Bool → ℕ → ℕ → List Refusal
-early c remembers kindA kindB =
+unfoldable pub early : Command → Bool → ℕ → ℕ → ℕ → List Refusal
+early c remembers kindA kindB kindRow =
     refuses unknownCommand (unknown (c .number))
     ∷ refuses rowOutside (noRow c)
     ∷ refuses historyEmpty (nothingRemembered (c .number) remembers)
-    ∷ refuses unfitSource (badSource (c .number) kindA kindB)
+    ∷ refuses unfitSource (badSource (c .number) kindA kindB kindRow)
     ∷ refuses valueOutside (badValue (c .number) (ofBits binary32 (c .u)) (ofBits binary32 (c .v)) (ofBits binary32 (c .w)))
     ∷ []
 
@@ -127,11 +139,12 @@ unfoldable pub late : ℕ → Sources → List Refusal
 late n s =
     refuses allReflected (noRefraction n s)
     ∷ refuses directionMissing (noDirection n s)
+    ∷ refuses lineParallel (noMeeting n s)
     ∷ refuses resultInfinite (notFinite (entryAt n .result s))
     ∷ []
 
 unfoldable pub refusals : Command → Bool → Sources → List Refusal
-refusals c remembers s = early c remembers (s .a .kind) (s .b .kind) ++ late (c .number) s
+refusals c remembers s = early c remembers (s .a .kind) (s .b .kind) (s .row .kind) ++ late (c .number) s
 
 unfoldable pub refusalOf : Command → Bool → Sources → ℕ
 refusalOf c remembers s = first (refusals c remembers s)

@@ -19,6 +19,8 @@ pub data Result : Type 0 where
   Aim : Vec3 → Result
   -- rows t and t + 1 become the directions of these
   Aims : Vec3 → Vec3 → Result
+  -- row t becomes the plane with this normal and this offset
+  Plane : Vec3 → Float → Result
   -- no row is written: a number, a root with its mark, a whole number or a row is told
   Number : Float → Result
   Root : MarkedRoot → Result

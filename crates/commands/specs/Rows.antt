@@ -1,25 +1,36 @@
 -- The rows of the reference model (document 01, "The plain sheet": "64 rows, 0 to 63, each empty (kind 0, its numbers +0), a point (1) or a direction (2)
--- with three numbers. Fresh: all empty"), and its state, which remembers (document 02, a).
+-- with three numbers. Fresh: all empty"), or a plane (document 02, d: "A row may be a plane (kind 6): a direction and a finite offset, so every row holds four
+-- numbers, the fourth 0 in other kinds"), and its state, which remembers (document 02, a).
 use Prim.Native.Nat.{ℕ}
 use mathlib.Core.List.{List, []}
 use lib.ListN.{getD, set, replicate}
+use lib.Ieee.{Float}
 use Rattle.vector.specs.declared.vec3.Vec3.{Vec3}
-use Rattle.vector.specs.Vectors.{ZERO}
+use Rattle.vector.specs.Vectors.{zer, ZERO}
 use Rattle.commands.specs.declared.row.Row.{Row}
-use Rattle.commands.specs.Codes.{rowCount, emptyKind, pointKind, directionKind}
+use Rattle.commands.specs.Codes.{rowCount, emptyKind, pointKind, directionKind, planeKind}
 
 pub record ModelRow : Type 0 where
   pub kind : ℕ
   pub numbers : Vec3
+  -- the fourth number
+  pub offset : Float
 
+abbrev pub row : ℕ → Vec3 → Float → ModelRow
+row kind v offset = record { kind = kind; numbers = v; offset = offset }
+
+-- one of each kind
 abbrev pub empty : ModelRow
-empty = record { kind = emptyKind; numbers = ZERO }
+empty = row emptyKind ZERO zer
 
 abbrev pub point : Vec3 → ModelRow
-point v = record { kind = pointKind; numbers = v }
+point v = row pointKind v zer
 
 abbrev pub direction : Vec3 → ModelRow
-direction v = record { kind = directionKind; numbers = v }
+direction v = row directionKind v zer
+
+abbrev pub plane : Vec3 → Float → ModelRow
+plane normal offset = row planeKind normal offset
 
 -- row i; there is none from 64 on
 unfoldable pub rowAt : List ModelRow → ℕ → ModelRow
@@ -45,4 +56,4 @@ fresh = record { rows = replicate rowCount empty; history = [] }
 
 -- the program's row, as the model's
 abbrev pub rowOf : Row → ModelRow
-rowOf r = record { kind = r .kind; numbers = r .v }
+rowOf r = row (r .kind) (r .v) (r .offset)

@@ -1,5 +1,6 @@
-// What a command comes to: it sees two rows and no sheet.
+// What a command comes to: it sees the rows that it reads and no sheet.
 mod directions;
+mod planes;
 mod projections;
 mod results;
 
@@ -8,7 +9,7 @@ ghost use mathlib.Core.Bool.{true};
 ghost use lib.Ieee.{binary32, ofBits};
 ghost use Rattle.vector.specs.Vectors.{vec};
 ghost use Rattle.commands.specs.Rows.{rowOf};
-ghost use Rattle.commands.specs.Fields.{sourcesOf};
+ghost use Rattle.commands.specs.Fields.{readOf, sourcesOf};
 ghost use Rattle.commands.specs.Results as Results;
 ghost use Rattle.commands.specs.Effects.{effectBy, settled, lateEffect, commandEffect};
 use crate::codes::EMPTY;
@@ -17,6 +18,9 @@ use crate::command::Command;
 use crate::effects::directions::direction;
 use crate::effects::directions::directions;
 use crate::effects::directions::refracted;
+use crate::effects::planes::height;
+use crate::effects::planes::meeting;
+use crate::effects::planes::plane;
 use crate::effects::projections::project;
 use crate::effects::projections::projected;
 use crate::effects::projections::reject;
@@ -33,7 +37,7 @@ use vector::vec3::Vec3;
 // An answer to tell; what to write at the target, one row, or two directions at t and t + 1; or the rows before the latest command that is remembered.
 pub enum Effect {
     Tell(Answer),
-    Put { kind: u32, v: Vec3 },
+    Put { kind: u32, v: Vec3, offset: f32 },
     PutTwo { v: Vec3, w: Vec3 },
     Restore,
 }
@@ -44,6 +48,7 @@ fn empties() -> Effect
     Effect::Put {
         kind: EMPTY,
         v: Vec3::ZERO,
+        offset: 0.0,
     }
 }
 
@@ -77,8 +82,8 @@ fn values(c: Command) -> Vec3
 }
 
 // The command by its number, an arm for each row of the table (specs/Commands); refusals 8, 7 and 6 are given where they arise.
-pub(crate) fn late_effect(c: Command, a: Row, b: Row) -> Effect
-    ensures { λ r. ⌜ effectBy r ≡ lateEffect c (sourcesOf c (rowOf a) (rowOf b)) ⌝ }
+pub(crate) fn late_effect(c: Command, a: Row, b: Row, p: Row) -> Effect
+    ensures { λ r. ⌜ effectBy r ≡ lateEffect c (sourcesOf c (readOf a b p)) ⌝ }
 {
     let n = c.number;
     match n {
@@ -116,18 +121,23 @@ pub(crate) fn late_effect(c: Command, a: Row, b: Row) -> Effect
         31 => whole(a.v.cmple(b.v).bitmask()),
         32 => shows(c.a, a),
         33 => undoes(),
+        34 => plane(a.v, b.v),
+        35 => height(a.v, b),
+        36 => meeting(a.v, b.v, p),
+        37 => number(a.offset),
         // 2 has refused the numbers that are not in the table
         _ => empties(),
     }
 }
 
-// What a command comes to, from its two source rows, where there is a command to take back: whether there is one the caller sees, and 33 alone depends on it.
-pub fn effect_of(c: Command, a: Row, b: Row) -> Effect
-    ensures { λ r. ⌜ effectBy r ≡ commandEffect c (rowOf a) (rowOf b) true ⌝ }
+// What a command comes to, from rows a and b and the row whose number is field u, where there is a command to take back: whether there is one the caller sees,
+// and 33 alone depends on it.
+pub fn effect_of(c: Command, a: Row, b: Row, p: Row) -> Effect
+    ensures { λ r. ⌜ effectBy r ≡ commandEffect c (readOf a b p) true ⌝ }
 {
-    let k = refusal(c, a.kind, b.kind);
+    let k = refusal(c, a.kind, b.kind, p.kind);
     if k == 0 {
-        late_effect(c, a, b)
+        late_effect(c, a, b, p)
     } else {
         Effect::Tell(Answer::Refused(k))
     }

@@ -5,12 +5,12 @@ ghost use lib.Dec.{eqb, ltb};
 ghost use lib.Ieee as Ieee;
 ghost use lib.Ieee.{binary32};
 ghost use lib.Ieee.Scale.{finite};
-ghost use Rattle.commands.specs.CommandSets.{inSet};
-ghost use Rattle.commands.specs.Commands.{allows, entryAt};
+ghost use Rattle.commands.specs.Fields.{isUsed, allows};
+ghost use Rattle.commands.specs.CommandSets.{inSet, setOf};
+ghost use Rattle.commands.specs.Commands.{entryAt};
 ghost use Rattle.commands.specs.Refusals.{noRow, badSource, outOfOrder, outOfRange, badValue, first, early};
-use crate::codes::DIRECTION;
-use crate::codes::EMPTY;
 use crate::codes::LAST;
+use crate::codes::PLANE;
 use crate::codes::ROW_OUTSIDE;
 use crate::codes::UNFIT_SOURCE;
 use crate::codes::UNKNOWN_COMMAND;
@@ -19,12 +19,12 @@ use crate::command::Command;
 use scalar::bits::from_bits;
 use scalar::sign::is_finite;
 
-// The commands that use t, a, b, u, v and w, and those whose sources are directions, each a bit: columns of the table in specs/Commands.
-const USE_T: u64 = 0x01ff_ffff;
+// The commands that use t, a, b, u, v and w, each a bit: columns of the table in specs/Commands.
+const USE_T: u64 = 0x14_01ff_ffff;
 
-const USE_A: u64 = 0x1_ffff_fffc;
+const USE_A: u64 = 0x3d_ffff_fffc;
 
-const USE_B: u64 = 0x9ad8_faf8;
+const USE_B: u64 = 0x1c_9ad8_faf8;
 
 const USE_U: u64 = 0x0080_6702;
 
@@ -32,7 +32,21 @@ const USE_V: u64 = 0x0000_0602;
 
 const USE_W: u64 = 0x0000_0202;
 
-const DIRECTIONS: u64 = 0x01c0_0000;
+// The commands that do not take a point, a direction, a plane, or a row of any other kind but empty, as a; those that use a do not take an empty one.
+const A_NOT_POINT: u64 = 0x20_01c0_0000;
+
+const A_NOT_DIRECTION: u64 = 0x3c_0000_0000;
+
+const A_NOT_PLANE: u64 = 0x1c_ffff_fffc;
+
+const A_NOT_OTHER: u64 = 0x3c_ffff_fffc;
+
+// And as b; 32 alone takes a row of another kind, and it does not use b.
+const B_NOT_POINT: u64 = 0x1c_00c0_0000;
+
+const B_NOT_DIRECTION: u64 = 0x08_0000_0000;
+
+const B_NOT_PLANE: u64 = 0x14_9ad8_faf8;
 
 fn is_in(set: u64, n: u32) -> bool
     ensures { λ r. ⌜ r ≡ inSet set n ⌝ }
@@ -51,15 +65,22 @@ fn uses_t(n: u32) -> bool
 }
 
 fn uses_a(n: u32) -> bool
-    ensures { λ r. ⌜ r ≡ entryAt n .uses .a ⌝ }
+    ensures { λ r. ⌜ r ≡ isUsed (entryAt n .uses .a) ⌝ }
 {
     is_in(USE_A, n)
 }
 
 fn uses_b(n: u32) -> bool
-    ensures { λ r. ⌜ r ≡ entryAt n .uses .b ⌝ }
+    ensures { λ r. ⌜ r ≡ isUsed (entryAt n .uses .b) ⌝ }
 {
     is_in(USE_B, n)
+}
+
+// 36 reads the row whose number is field u.
+fn uses_row(n: u32) -> bool
+    ensures { λ r. ⌜ r ≡ isUsed (entryAt n .uses .row) ⌝ }
+{
+    n == 36
 }
 
 fn uses_u(n: u32) -> bool
@@ -107,33 +128,77 @@ fn no_row(c: Command) -> bool
     if row_out(uses_b(c.number), c.b) {
         return true;
     }
+    if row_out(uses_row(c.number), c.u) {
+        return true;
+    }
     no_next_row(c.number, c.t)
 }
 
-// A source that is used and is not of a kind that the command takes.
-fn source_bad(used: bool, n: u32, kind: u32) -> bool
-    ensures { λ r. ⌜ r ≡ (used && not (allows (entryAt n .takes) kind)) ⌝ }
+// One of five sets, by a row's kind.
+fn set_of(kind: u32, empty: u64, point: u64, direction: u64, plane: u64, other: u64) -> u64
+    ensures { λ r. ⌜ r ≡ setOf «kind» empty point direction plane other ⌝ }
 {
-    if used {
-        if is_in(DIRECTIONS, n) {
-            kind != DIRECTION
-        } else {
-            kind == EMPTY
-        }
-    } else {
-        false
+    match kind {
+        0 => empty,
+        1 => point,
+        2 => direction,
+        6 => plane,
+        _ => other,
     }
 }
 
-// "4, a source empty, or no direction in 22 to 24"
-fn bad_source(n: u32, kind_a: u32, kind_b: u32) -> bool
-    ensures { λ r. ⌜ r ≡ badSource n «kind_a» «kind_b» ⌝ }
+// Whether the command does not take a row of this kind as a.
+fn bad_a(n: u32, kind: u32) -> bool
+    ensures { λ r. ⌜ r ≡ not (allows (entryAt n .uses .a) «kind») ⌝ }
 {
-    if source_bad(uses_a(n), n, kind_a) {
-        true
-    } else {
-        source_bad(uses_b(n), n, kind_b)
+    is_in(
+        set_of(
+            kind,
+            USE_A,
+            A_NOT_POINT,
+            A_NOT_DIRECTION,
+            A_NOT_PLANE,
+            A_NOT_OTHER,
+        ),
+        n,
+    )
+}
+
+// And as b.
+fn bad_b(n: u32, kind: u32) -> bool
+    ensures { λ r. ⌜ r ≡ not (allows (entryAt n .uses .b) «kind») ⌝ }
+{
+    is_in(
+        set_of(
+            kind,
+            USE_B,
+            B_NOT_POINT,
+            B_NOT_DIRECTION,
+            B_NOT_PLANE,
+            USE_B,
+        ),
+        n,
+    )
+}
+
+// And as the row whose number is field u.
+fn bad_row(n: u32, kind: u32) -> bool
+    ensures { λ r. ⌜ r ≡ not (allows (entryAt n .uses .row) «kind») ⌝ }
+{
+    if uses_row(n) { kind != PLANE } else { false }
+}
+
+// "4, a source empty, or no direction in 22 to 24"; "A row called point, direction or plane here must be of that kind, else 4"
+fn bad_source(n: u32, kind_a: u32, kind_b: u32, kind_row: u32) -> bool
+    ensures { λ r. ⌜ r ≡ badSource n «kind_a» «kind_b» «kind_row» ⌝ }
+{
+    if bad_a(n, kind_a) {
+        return true;
     }
+    if bad_b(n, kind_b) {
+        return true;
+    }
+    bad_row(n, kind_row)
 }
 
 // A value that is used and not finite.
@@ -200,8 +265,8 @@ fn bad_value(n: u32, u: u32, v: u32, w: u32) -> bool
 }
 
 // The number of the first of refusals 2, 3, 4 and 5 that holds, from the kinds of the sources, where there is a command to take back; 0 where none does.
-pub(crate) fn refusal(c: Command, kind_a: u32, kind_b: u32) -> u32
-    ensures { λ r. ⌜ r ≡ first (early c true «kind_a» «kind_b») ⌝ }
+pub(crate) fn refusal(c: Command, kind_a: u32, kind_b: u32, kind_row: u32) -> u32
+    ensures { λ r. ⌜ r ≡ first (early c true «kind_a» «kind_b» «kind_row») ⌝ }
 {
     if LAST < c.number {
         return UNKNOWN_COMMAND;
@@ -209,7 +274,7 @@ pub(crate) fn refusal(c: Command, kind_a: u32, kind_b: u32) -> u32
     if no_row(c) {
         return ROW_OUTSIDE;
     }
-    if bad_source(c.number, kind_a, kind_b) {
+    if bad_source(c.number, kind_a, kind_b, kind_row) {
         return UNFIT_SOURCE;
     }
     if bad_value(c.number, c.u, c.v, c.w) {

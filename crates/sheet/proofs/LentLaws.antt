@@ -8,10 +8,11 @@ use borrow.Author.Tests.{lt-ltb, le-ltb}
 use lib.ListN.{length, drop}
 use Rattle.commands.specs.declared.command.Command.{Command}
 use Rattle.commands.specs.Codes.{lentTooShort}
-use Rattle.commands.specs.Rows.{ModelRow, State, rowAt}
+use Rattle.commands.specs.Rows.{State}
+use Rattle.commands.specs.Fields.{Read}
 use Rattle.commands.specs.Answers.{refused}
 use Rattle.commands.specs.Effects.{ModelEffect, Puts, PutsTwo, Restores, Tells}
-use Rattle.commands.specs.Model.{Stepped, stepped, applied, isSome, effectOn, stepOf, Ran, runFrom}
+use Rattle.commands.specs.Model.{Stepped, stepped, applied, isSome, readAt, effectOn, stepOf, Ran, runFrom}
 use Rattle.commands.specs.Claim.{Claim}
 use Rattle.commands.proofs.ClaimLaws.{model-claim}
 use Rattle.sheet.specs.Rows.{putRow}
@@ -70,17 +71,14 @@ module _ (w : List ℕ) (c : Command) (l : stateWords ≤ length w) where
   abbrev effect : ModelEffect
   effect = effectOn (modelOf w) c
 
-  abbrev a : ModelRow
-  a = rowAt (modelOf w .rows) (c .a)
-
-  abbrev b : ModelRow
-  b = rowAt (modelOf w .rows) (c .b)
+  abbrev read : Read
+  read = readAt (modelOf w) c
 
   abbrev some : Bool
   some = isSome (modelOf w .history)
 
   range : InRange (c .t) effect
-  range = target-in-range c a b some
+  range = target-in-range c read some
 
   by-effect : lentStep w c ≡ stepped (wordsAfter w (c .t) effect) (applied (modelOf w) (c .t) effect .answer)
   by-effect = sym (lent-by w c effect l refl)
@@ -94,9 +92,9 @@ module _ (w : List ℕ) (c : Command) (l : stateWords ≤ length w) where
   pub step-lent : steppedAs modelOf (lentStep w c) ≡ stepOf (modelOf w) c
   unfolding stepOf
   step-lent =
-      let fits = effect-fits c a b some (row-fits w (c .a)) (row-fits w (c .b)) in
+      let fits = effect-fits c read some (row-fits w (c .a) .numbers) (row-fits w (c .b) .numbers) in
       ap (λ (o : Stepped (List ℕ)). steppedAs modelOf o) by-effect
-      ∙ ap (λ (s : State). stepped s (applied (modelOf w) (c .t) effect .answer)) (effect-lent w (c .t) effect l range (restores-remembered c a b some) fits)
+      ∙ ap (λ (s : State). stepped s (applied (modelOf w) (c .t) effect .answer)) (effect-lent w (c .t) effect l range (restores-remembered c read some) fits)
 
 -- ---- a list
 pub length-run : (w : List ℕ) (cs : List Command) → stateWords ≤ length w → length (lentRun w cs .state) ≡ length w

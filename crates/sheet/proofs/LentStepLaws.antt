@@ -6,6 +6,7 @@ use mathlib.Core.List.{List}
 use native.Mathlib.Omega.{arith}
 use borrow.Author.Tests.{lt-ltb, le-ltb}
 use lib.ListN.{length}
+use lib.Ieee.{Float}
 use lib.Seq.{sets}
 use Rattle.vector.specs.declared.vec3.Vec3.{Vec3}
 use Rattle.commands.specs.declared.row.Row.{Row}
@@ -15,15 +16,17 @@ use Rattle.commands.specs.declared.command.Answer.the-variants.{Shown}
 use Rattle.commands.specs.declared.effects.Effect.{Effect}
 use Rattle.commands.specs.declared.effects.Effect.the-variants.{Tell, Put, PutTwo, Restore}
 use Rattle.commands.specs.Codes.{rowCount, directionKind, lentTooShort, historyEmpty}
-use Rattle.commands.specs.Rows.{ModelRow, direction, rowOf, rowAt}
+use Rattle.commands.specs.Rows.{ModelRow, row, direction, rowOf, rowAt}
+use Rattle.commands.specs.Fields.{readOf}
 use Rattle.commands.specs.Answers.{refused, answerOf, numbersOf}
 use Rattle.commands.specs.Effects.{ModelEffect, Restores, Tells, commandEffect, effectBy}
-use Rattle.commands.specs.Model.{Stepped, stepped, applied, restored, isSome, effectOn}
+use Rattle.commands.specs.Model.{Stepped, stepped, applied, restored, isSome, readAt, effectOn}
 use Rattle.sheet.specs.Rows.{putRow}
 use Rattle.sheet.specs.History.{remembered, takenBack}
 use Rattle.sheet.specs.Words.{stateWords, modelOf, wordsAfter, undone, lentStep}
 use Rattle.sheet.specs.Run.{steppedAt, lentStepAt}
 use Rattle.commands.proofs.CommandLaws.{InRange, target-in-range, effect-rows}
+use Rattle.commands.proofs.table.UnreadLaws.{Source, A, B, U, numberIn, rowIn}
 use Rattle.commands.proofs.history.EmptyLaws.{unlessEmpty, by-history}
 use Rattle.sheet.proofs.words.PutLaws.{length-put}
 use Rattle.sheet.proofs.ring.RememberLaws.{length-remembered}
@@ -38,17 +41,25 @@ below : (rows : List ModelRow) (i : ℕ) (a : Row) → rowOf a ≡ rowAt rows (i
 below rows i a e h = let k : i % 64 ≡ i = omega arith in e ∙ ap (rowAt rows) k
 
 pub found :
-    (w : List ℕ) (c : Command) (a b : Row) (d : Effect)
+    (w : List ℕ) (c : Command) (a b r : Row) (d : Effect)
     → stateWords ≤ length w
     → rowOf a ≡ rowAt (modelOf w .rows) (c .a % 64)
     → rowOf b ≡ rowAt (modelOf w .rows) (c .b % 64)
-    → effectBy d ≡ commandEffect c (rowOf a) (rowOf b) true
+    → rowOf r ≡ rowAt (modelOf w .rows) (c .u % 64)
+    → effectBy d ≡ commandEffect c (readOf a b r) true
     → Found w c d
-found w c a b d l ea eb e =
-    let rows = modelOf w .rows in
+found w c a b r d l ea eb er e =
     let some = isSome (modelOf w .history) in
-    let read = effect-rows c (rowOf a) (rowOf b) (rowAt rows (c .a)) (rowAt rows (c .b)) true (below rows (c .a) a ea) (below rows (c .b) b eb) in
-    record { long = l; same = by-history c (rowAt rows (c .a)) (rowAt rows (c .b)) some ∙ ap (unlessEmpty some) (sym (e ∙ read)) }
+    let read = effect-rows c (readOf a b r) (readAt (modelOf w) c) true same in
+    record { long = l; same = by-history c (readAt (modelOf w) c) some ∙ ap (unlessEmpty some) (sym (e ∙ read)) }
+  where
+    rows : List ModelRow
+    rows = modelOf w .rows
+
+    same : (i : Source) → numberIn i c < rowCount → rowIn i (readOf a b r) ≡ rowIn i (readAt (modelOf w) c)
+    same A = below rows (c .a) a ea
+    same B = below rows (c .b) b eb
+    same U = below rows (c .u) r er
 
 module _ {w : List ℕ} {c : Command} {d : Effect} (f : Found w c d) where
   abbrev some : Bool
@@ -62,13 +73,13 @@ module _ {w : List ℕ} {c : Command} {d : Effect} (f : Found w c d) where
   holds : (P : ModelEffect → Type 0) → P (effectOn (modelOf w) c) → (e : Effect) → d ≡ e → P (unlessEmpty some (effectBy e))
   holds P h e q = subst P (sym (by e q)) h
 
-  pub put-range : (kind : ℕ) (v : Vec3) → d ≡ Put kind v → c .t < rowCount
+  pub put-range : (kind : ℕ) (v : Vec3) (o : Float) → d ≡ Put kind v o → c .t < rowCount
   unfolding effectBy
-  put-range kind v q = holds (InRange (c .t)) (target-in-range c _ _ _) (Put kind v) q
+  put-range kind v o q = holds (InRange (c .t)) (target-in-range c _ _) (Put kind v o) q
 
   pub two-range : (u v : Vec3) → d ≡ PutTwo u v → c .t + 1 < rowCount
   unfolding effectBy
-  two-range u v q = holds (InRange (c .t)) (target-in-range c _ _ _) (PutTwo u v) q
+  two-range u v q = holds (InRange (c .t)) (target-in-range c _ _) (PutTwo u v) q
 
   pub remembered-long : (w₁ : List ℕ) (n : ℕ) → w₁ ≡ remembered w (c .t) n → stateWords ≤ length w₁
   remembered-long w₁ n e = omega (arith, ap length e, length-remembered w (c .t) n, f .long)
@@ -78,16 +89,15 @@ module _ {w : List ℕ} {c : Command} {d : Effect} (f : Found w c d) where
   tells x q = lent-by w c (effectBy (Tell x)) (f .long) (by (Tell x) q)
 
   pub puts :
-      (w₁ w₂ : List ℕ) (kind : ℕ) (v : Vec3)
-      → d ≡ Put kind v
+      (w₁ w₂ : List ℕ) (kind : ℕ) (v : Vec3) (o : Float)
+      → d ≡ Put kind v o
       → w₁ ≡ remembered w (c .t) 1
-      → w₂ ≡ putRow w₁ (c .t) (record { kind = kind; numbers = v })
+      → w₂ ≡ putRow w₁ (c .t) (row kind v o)
       → stepped w₂ (answerOf (Shown (c .t) kind v)) ≡ lentStep w c
   unfolding applied effectBy wordsAfter answerOf
-  puts w₁ w₂ kind v q e g =
-      let r : ModelRow = record { kind = kind; numbers = v } in
-      ap (λ (k : List ℕ). stepped k (answerOf (Shown (c .t) kind v))) (g ∙ ap (λ (k : List ℕ). putRow k (c .t) r) e)
-      ∙ lent-by w c (effectBy (Put kind v)) (f .long) (by (Put kind v) q)
+  puts w₁ w₂ kind v o q e g =
+      ap (λ (k : List ℕ). stepped k (answerOf (Shown (c .t) kind v))) (g ∙ ap (λ (k : List ℕ). putRow k (c .t) (row kind v o)) e)
+      ∙ lent-by w c (effectBy (Put kind v o)) (f .long) (by (Put kind v o) q)
 
   pub puts-two :
       (w₁ w₂ w₃ : List ℕ) (u v : Vec3)

@@ -1,11 +1,11 @@
-// The rows of a sheet, which lies in words that a caller lends: 64 rows of five words, the kind, three numbers as bits, and a fourth that is 0; behind them is what
-// it remembers (history.rt).
+// The rows of a sheet, which lies in words that a caller lends: 64 rows of five words, the kind and four numbers as bits; behind them is what it remembers
+// (history.rt).
 ghost use mathlib.Core.Path.{_≡_};
 ghost use mathlib.Core.List.{[], _∷_};
 ghost use Prim.Native.Nat.{_+_, _≤_, _<_};
 ghost use lib.ListN.{length};
 ghost use lib.Seq.{sets};
-ghost use Rattle.commands.specs.Rows.{rowOf, rowAt};
+ghost use Rattle.commands.specs.Rows.{row, rowOf, rowAt};
 ghost use Rattle.sheet.specs.Rows.{putRow};
 ghost use Rattle.sheet.specs.Words.{stateWords, modelOf};
 use commands::row::Row;
@@ -31,6 +31,7 @@ pub(crate) fn row_at(state: &[u32], i: usize) -> Row
             y: from_bits(state[k + 2]),
             z: from_bits(state[k + 3]),
         },
+        offset: from_bits(state[k + 4]),
     }
 }
 
@@ -46,9 +47,9 @@ pub(crate) fn put_five(state: &mut [u32], at: usize, kind: u32, x: u32, y: u32, 
 }
 
 // Writes row i, and no other word.
-pub(crate) fn put_row(state: &mut [u32], i: usize, kind: u32, v: Vec3)
+pub(crate) fn put_row(state: &mut [u32], i: usize, kind: u32, v: Vec3, offset: f32)
     requires { ⌜ (i < 64) × (stateWords ≤ length (now state)) ⌝ }
-    ensures { λ _. ⌜ now (state .exit) ≡ putRow (now (state .entry)) i (record { kind = kind; numbers = v }) ⌝ }
+    ensures { λ _. ⌜ now (state .exit) ≡ putRow (now (state .entry)) i (row kind v offset) ⌝ }
 {
     put_five(
         state,
@@ -57,6 +58,6 @@ pub(crate) fn put_row(state: &mut [u32], i: usize, kind: u32, v: Vec3)
         to_bits(v.x),
         to_bits(v.y),
         to_bits(v.z),
-        0,
+        to_bits(offset),
     );
 }

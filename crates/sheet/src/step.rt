@@ -46,14 +46,16 @@ pub fn step(state: &mut [u32], c: Command) -> Answer
     }
     let a = (c.a % 64) as usize;
     let b = (c.b % 64) as usize;
+    let u = (c.u % 64) as usize;
     let row_a = row_at(state, a);
     let row_b = row_at(state, b);
-    match effect_of(c, row_a, row_b) {
+    let row_u = row_at(state, u);
+    match effect_of(c, row_a, row_b, row_u) {
         Effect::Tell(x) => x,
-        Effect::Put { kind, v } => {
+        Effect::Put { kind, v, offset } => {
             let t = c.t as usize;
             remember_one(state, c.t);
-            put_row(state, t, kind, v);
+            put_row(state, t, kind, v, offset);
             Answer::Shown {
                 row: c.t,
                 kind: kind,
@@ -63,9 +65,9 @@ pub fn step(state: &mut [u32], c: Command) -> Answer
         Effect::PutTwo { v, w } => {
             let t = c.t as usize;
             remember_two(state, c.t);
-            put_row(state, t, DIRECTION, v);
+            put_row(state, t, DIRECTION, v, 0.0);
             let next = t + 1;
-            put_row(state, next, DIRECTION, w);
+            put_row(state, next, DIRECTION, w, 0.0);
             Answer::Shown {
                 row: c.t,
                 kind: DIRECTION,

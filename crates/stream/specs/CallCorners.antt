@@ -62,7 +62,7 @@ pub record CallCorners : Type 0 where
   by-lines : LineCalls (freshWords []) (lentLess ∷ noByte ∷ lentMore ∷ []) pointWords
 
 pub call-corners : CallCorners
-unfolding Texts.bytes Responses.response Responses.answerText Responses.respondOf Stream.pushed Stream.byteFed Stream.feedOf Stream.consumedOf Stream.fedInto Stream.endOf Stream.endedOf Fields.commandOf Field.digits Field.decimal Field.valueFrom Field.value Field.leadingZero Field.number Field.glyph Field.lead Field.written Columns.fieldAt Columns.both Columns.numbersAt Columns.text CommandLine.numbers AnswerLine.answerLine Words.lentStep Words.modelOf Words.wordsAfter RowWords.rowsFrom RowWords.wordRow RowWords.putRow RowWords.rowWords History.ringOf History.entriesFrom History.unwound History.remembered Model.applied Effects.effectOf Effects.unlessRefused Effects.commandEffect Commands.table Commands.entryAt Refusals.unknown Refusals.noRow Refusals.nothingRemembered Refusals.badSource Refusals.outOfOrder Refusals.outOfRange Refusals.badValue Refusals.noRefraction Refusals.lacksDirection Refusals.noDirection Refusals.notFinite Refusals.first Refusals.early Refusals.late Refusals.refusals Refusals.refusalOf Comparisons.isFinite Ieee.ofBits Ieee.toBits
+unfolding Texts.bytes Responses.response Responses.answerText Responses.respondOf Stream.pushed Stream.byteFed Stream.feedOf Stream.consumedOf Stream.fedInto Stream.endOf Stream.endedOf Fields.commandOf Field.digits Field.decimal Field.valueFrom Field.value Field.leadingZero Field.number Field.glyph Field.lead Field.written Columns.fieldAt Columns.both Columns.numbersAt Columns.text CommandLine.numbers AnswerLine.answerLine Words.lentStep Words.modelOf Words.wordsAfter RowWords.rowsFrom RowWords.wordRow RowWords.putRow RowWords.rowWords History.ringOf History.entriesFrom History.unwound History.remembered Model.applied Effects.effectOf Effects.unlessRefused Effects.commandEffect Commands.table Commands.entryAt Fields.allows Refusals.unknown Refusals.noRow Refusals.nothingRemembered Refusals.badSource Refusals.outOfOrder Refusals.outOfRange Refusals.badValue Refusals.noRefraction Refusals.lacksDirection Refusals.noDirection Refusals.noMeeting Refusals.notFinite Refusals.first Refusals.early Refusals.late Refusals.refusals Refusals.refusalOf Comparisons.isFinite Ieee.ofBits Ieee.toBits
 call-corners =
     let first = take 20 point in
     record {

@@ -1,4 +1,4 @@
--- Document 01's listing as a whole input, a point that is taken back, and the inputs without a command, computed from the definitions. Texts stand for their bytes.
+-- Document 01's listing as a whole input, a point that is taken back, a plane that a line meets, and the inputs without a command, computed from the definitions. Texts stand for their bytes.
 use Prim.Native.Nat.{ℕ}
 use Prim.Native.String.{String}
 use mathlib.Core.Path.{_≡_, refl}
@@ -14,6 +14,7 @@ use Rattle.vector.specs.Comparisons as Comparisons
 use Rattle.vector.specs.Normalizing as Normalizing
 use Rattle.commands.specs.Rows as Rows
 use Rattle.commands.specs.Rows.{fresh}
+use Rattle.commands.specs.Planes as Planes
 use Rattle.commands.specs.Results as Results
 use Rattle.commands.specs.Commands as Commands
 use Rattle.commands.specs.Refusals as Refusals
@@ -63,6 +64,24 @@ pub record Corners : Type 0 where
   taken-back :
       outputOf fresh (point ++ back ++ back)
       ≡ pointAnswer ++ line "  0  0  0          0          0          0" ++ line " 11  0  0          0          0          0"
+  -- document 02, d: the plane through (0, 2, 0) with the normal (0, 1, 0), its offset, and the point of it below (0, 5, 0), written over the plane, whose row u is
+  -- "the whole number in field u"
+  plane-met :
+      outputOf fresh
+      (line "  1  0  0  0          0 1073741824          0"
+      ++ line "  1  1  0  0          0 1065353216          0"
+      ++ line "  2  2  1  0          0          0          0"
+      ++ line " 34  3  0  2          0          0          0"
+      ++ line " 37  0  3  0          0          0          0"
+      ++ line "  1  4  0  0          0 1084227584          0"
+      ++ line " 36  3  4  2          3          0          0")
+      ≡ line "  0  0  1          0 1073741824          0"
+      ++ line "  0  1  1          0 1065353216          0"
+      ++ line "  0  2  2          0 1065353216          0"
+      ++ line "  0  3  6          0 1065353216          0"
+      ++ line "  0  0  3 1073741824          0          0"
+      ++ line "  0  4  1          0 1084227584          0"
+      ++ line "  0  3  1          0 1073741824          0"
   -- "input without bytes gives no output"
   empty : outputOf fresh [] ≡ []
   -- "1, not 45 bytes before a line feed"
@@ -75,5 +94,5 @@ pub record Corners : Type 0 where
   in-between : outputOf fresh (point ++ (10 ∷ []) ++ length ++ (32 ∷ [])) ≡ pointAnswer ++ ill ++ lengthAnswer ++ ill
 
 pub corners : Corners
-unfolding Texts.bytes Responses.response Responses.answerText Stream.pushed Stream.byteFed Stream.feedOf Stream.endOf Fields.commandOf Field.digits Field.decimal Field.valueFrom Field.value Field.leadingZero Field.number Field.glyph Field.lead Field.written Columns.fieldAt Columns.both Columns.numbersAt Columns.text CommandLine.numbers AnswerLine.answerLine Model.stepOf Model.applied Model.remembering Model.restored Effects.effectOf Effects.directionIn Effects.unlessRefused Effects.commandEffect Rows.fresh Rows.rowAt Rows.withRow Commands.table Commands.entryAt Commands.allows Results.directionOf Refusals.unknown Refusals.noRow Refusals.nothingRemembered Refusals.badSource Refusals.outOfOrder Refusals.outOfRange Refusals.badValue Refusals.noRefraction Refusals.isNothing Refusals.lacksDirection Refusals.noFactor Refusals.noDirection Refusals.notFinite Refusals.first Refusals.early Refusals.late Refusals.refusals Refusals.refusalOf Comparisons.isFinite Normalizing.tryNormalize Normalizing.usable Products.length Products.lengthAndExactness Products.lengthSquared Products.lengthRecip Products.dot Operators.mulNumber ExactRoot.exactRoot ExactRoot.rootAndExactness Root.root Root.rootUnits WholeRoot.wholeRoot Exact.sizeIn Exact.negative Ieee.round Ieee.neg Ieee.div Ieee.sub Ieee.le Ieee.lt Ieee.eq Ieee.add Ieee.sum Ieee.mul Ieee.ofBits Ieee.toBits
-corners = record { listed = refl; taken-back = refl; empty = refl; blank-line = refl; column-more = refl; columns-more = refl; unended = refl; in-between = refl }
+unfolding Texts.bytes Responses.response Responses.answerText Stream.pushed Stream.byteFed Stream.feedOf Stream.endOf Fields.commandOf Field.digits Field.decimal Field.valueFrom Field.value Field.leadingZero Field.number Field.glyph Field.lead Field.written Columns.fieldAt Columns.both Columns.numbersAt Columns.text CommandLine.numbers AnswerLine.answerLine Model.stepOf Model.applied Model.remembering Model.restored Effects.effectOf Effects.directionIn Effects.unlessRefused Effects.commandEffect Rows.fresh Rows.rowAt Rows.withRow Commands.table Commands.entryAt Fields.allows Results.directionOf Refusals.unknown Refusals.noRow Refusals.nothingRemembered Refusals.badSource Refusals.outOfOrder Refusals.outOfRange Refusals.badValue Refusals.noRefraction Refusals.isNothing Refusals.lacksDirection Refusals.noFactor Refusals.noDirection Refusals.noMeeting Planes.offsetThrough Planes.isParallel Planes.meeting Refusals.notFinite Refusals.first Refusals.early Refusals.late Refusals.refusals Refusals.refusalOf Comparisons.isFinite Normalizing.tryNormalize Normalizing.usable Products.length Products.lengthAndExactness Products.lengthSquared Products.lengthRecip Products.dot Operators.add Operators.mulNumber ExactRoot.exactRoot ExactRoot.rootAndExactness Root.root Root.rootUnits WholeRoot.wholeRoot Exact.sizeIn Exact.negative Ieee.round Ieee.neg Ieee.div Ieee.sub Ieee.le Ieee.lt Ieee.eq Ieee.add Ieee.sum Ieee.mul Ieee.ofBits Ieee.toBits
+corners = record { listed = refl; taken-back = refl; plane-met = refl; empty = refl; blank-line = refl; column-more = refl; columns-more = refl; unended = refl; in-between = refl }

@@ -39,7 +39,7 @@ effect-24 c s is = rw is refl
 
 read-direction : (s : Sources) → Held 24 (entryAt 24) s → Direction (s .a .numbers)
 unfolding table entryAt
-read-direction s h = direction-there (s .a) (h .row-a) (h .fit-a refl)
+read-direction s h = direction-there (s .a) (h .row-a) (h .fit-a)
 
 pub pair-taken : (s : Sources) → Held 24 (entryAt 24) s → lacksDirection (entryAt 24 .result s) ≡ false → PairTaken (s .a .numbers) (firstDirection s) (secondDirection s)
 unfolding lacksDirection table entryAt

@@ -12,27 +12,27 @@ use Rattle.vector.specs.Vectors.{zer}
 use Rattle.vector.specs.Comparisons.{isFinite}
 use Rattle.vector.specs.ExactVectors.{FiniteVec}
 use Rattle.vector.specs.AssertLaws.{zeroLength}
-use Rattle.commands.specs.Fields.{Sources}
-use Rattle.commands.specs.Commands.{allows, entryAt}
+use Rattle.commands.specs.Fields.{allows, Sources}
+use Rattle.commands.specs.Commands.{entryAt}
 use Rattle.commands.specs.Refusals.{badSource, outOfOrder, outOfRange, badValue, lacksDirection, noFactor, noDirection}
 use Rattle.commands.proofs.ConditionLaws.{met, none-of-two, none-of-four}
 
--- 4: a source that is read is of a kind that the command takes
-pub record FitKinds (n kindA kindB : ℕ) : Type 0 where
-  pub fit-a : entryAt n .uses .a ≡ true → allows (entryAt n .takes) kindA ≡ true
-  pub fit-b : entryAt n .uses .b ≡ true → allows (entryAt n .takes) kindB ≡ true
+-- 4: each row is of a kind that the command takes
+pub record FitKinds (n kindA kindB kindRow : ℕ) : Type 0 where
+  pub fit-a : allows (entryAt n .uses .a) kindA ≡ true
+  pub fit-b : allows (entryAt n .uses .b) kindB ≡ true
+  pub fit-row : allows (entryAt n .uses .row) kindRow ≡ true
 
-pub fit-kinds : (n kindA kindB : ℕ) → badSource n kindA kindB ≡ false → FitKinds n kindA kindB
+pub fit-kinds : (n kindA kindB kindRow : ℕ) → badSource n kindA kindB kindRow ≡ false → FitKinds n kindA kindB kindRow
 unfolding badSource
-fit-kinds n kindA kindB h =
-    let e = entryAt n in
-    let fits-a = allows (e .takes) kindA in
-    let fits-b = allows (e .takes) kindB in
-    let parts = none-of-two (e .uses .a && not fits-a) (e .uses .b && not fits-b) h in
-    record {
-      fit-a = λ u. not-false fits-a (met (e .uses .a) (not fits-a) u (parts .0));
-      fit-b = λ u. not-false fits-b (met (e .uses .b) (not fits-b) u (parts .1));
-    }
+fit-kinds n kindA kindB kindRow h =
+    let uses = entryAt n .uses in
+    let fits-a = allows (uses .a) kindA in
+    let fits-b = allows (uses .b) kindB in
+    let fits-row = allows (uses .row) kindRow in
+    let last = none-of-two (not fits-a || not fits-b) (not fits-row) h in
+    let front = none-of-two (not fits-a) (not fits-b) (last .0) in
+    record { fit-a = not-false fits-a (front .0); fit-b = not-false fits-b (front .1); fit-row = not-false fits-row (last .1) }
 
 -- 5: in 10, 0 ≤ u ≤ v
 pub clamps-ordered : (n : ℕ) (u v w : Float) → badValue n u v w ≡ false → eqb n 10 ≡ true → T (le zer u) × T (le u v)

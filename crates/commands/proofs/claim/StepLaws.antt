@@ -10,14 +10,14 @@ use Rattle.commands.specs.Rows.{ModelRow, Snapshot, State, direction, ro
 use Rattle.commands.specs.Answers.{refused}
 use Rattle.commands.specs.Commands.{entryAt}
 use Rattle.commands.specs.Effects.{ModelEffect, Puts, PutsTwo, Restores, Tells, effectOf}
-use Rattle.commands.specs.Model.{Stepped, stepped, restored, applied, isSome, stepOf}
-use Rattle.commands.specs.Claim.{Sound, SoundRow, sourcesAt, refusalAt, Orthogonal, Well}
+use Rattle.commands.specs.Model.{Stepped, stepped, restored, applied, isSome, readAt, stepOf}
+use Rattle.commands.specs.Claim.{Sound, sourcesAt, refusalAt, Orthogonal, Well}
 use Rattle.commands.proofs.ConditionLaws.{Done, done}
 use Rattle.commands.proofs.CommandLaws.{InRange, target-in-range, effect-done, effect-refused}
 use Rattle.commands.proofs.history.EmptyLaws.{Remembered, restores-remembered}
 use Rattle.commands.proofs.claim.RefusalLaws.{Directed, directed}
 use Rattle.commands.proofs.claim.RowLaws.{with-row-sound, with-rows-sound, restored-sound, length-with-row, read-same, read-other}
-use Rattle.commands.proofs.claim.SourceLaws.{Held, held}
+use Rattle.commands.proofs.claim.SourceLaws.{Held, SoundRead, held}
 use Rattle.commands.proofs.claim.PairRows.{PairTaken, firstDirection, secondDirection, effect-24, pair-taken}
 use Rattle.commands.proofs.claim.AssertedLaws.{asserted}
 use Rattle.commands.proofs.claim.EffectLaws.{SoundEffect, effect-sound}
@@ -25,11 +25,11 @@ use Rattle.commands.proofs.claim.EffectLaws.{SoundEffect, effect-sound}
 -- ---- the two ways that a command goes
 pub step-done : (s : State) (c : Command) → refusalAt s c ≡ 0 → stepOf s c ≡ applied s (c .t) (effectOf (entryAt (c .number) .result (sourcesAt s c)))
 unfolding stepOf
-step-done s c e = ap (applied s (c .t)) (effect-done c _ _ _ e)
+step-done s c e = ap (applied s (c .t)) (effect-done c _ _ e)
 
 pub step-refused : (s : State) (c : Command) (k : ℕ) → refusalAt s c ≡ suc k → stepOf s c ≡ stepped s (refused (suc k))
 unfolding stepOf applied
-step-refused s c k e = ap (applied s (c .t)) (effect-refused c _ _ _ k e)
+step-refused s c k e = ap (applied s (c .t)) (effect-refused c _ _ k e)
 
 -- ---- what an effect leaves
 applied-sound : (s : State) (t : ℕ) (e : ModelEffect) → Sound s → SoundEffect e → Sound (applied s t e .state)
@@ -63,30 +63,27 @@ two-rows s t p q h = (
 )
 
 module _ (s : State) (c : Command) (sound : Sound s) where
-  row-a : SoundRow (rowAt (s .rows) (c .a))
-  row-a = sound .rows .each-row (c .a)
-
-  row-b : SoundRow (rowAt (s .rows) (c .b))
-  row-b = sound .rows .each-row (c .b)
+  sound-read : SoundRead (readAt s c)
+  sound-read = record { row-a = sound .rows .each-row (c .a); row-b = sound .rows .each-row (c .b) }
 
   module _ (e : refusalAt s c ≡ 0) where
     is-done : Done c (isSome (s .history)) (sourcesAt s c)
     is-done = done c _ (sourcesAt s c) e
 
     done-effect : SoundEffect (effectOf (entryAt (c .number) .result (sourcesAt s c)))
-    done-effect = effect-sound c _ _ _ row-a row-b is-done
+    done-effect = effect-sound c _ _ sound-read is-done
 
     done-sound : Sound (stepOf s c .state)
     done-sound = subst (λ (o : Stepped State). Sound (o .state)) (sym (step-done s c e)) (applied-sound s (c .t) _ sound done-effect)
 
     done-answers : stepOf s c .answer .refusal ≡ 0
     done-answers =
-        let something = subst (Remembered (isSome (s .history))) (effect-done c _ _ _ e) (restores-remembered c _ _ _) in
+        let something = subst (Remembered (isSome (s .history))) (effect-done c _ _ e) (restores-remembered c _ _) in
         ap (λ (o : Stepped State). o .answer .refusal) (step-done s c e) ∙ applied-answers s (c .t) _ done-effect something
 
     done-pair : c .number ≡ 24 → PairTaken (sourcesAt s c .a .numbers) (firstDirection (sourcesAt s c)) (secondDirection (sourcesAt s c))
     done-pair is =
-        let there = subst (λ (n : ℕ). Held n (entryAt n) (sourcesAt s c)) is (held c _ _ _ row-a row-b is-done) in
+        let there = subst (λ (n : ℕ). Held n (entryAt n) (sourcesAt s c)) is (held c _ _ sound-read is-done) in
         let seven = subst (λ (n : ℕ). Directed n (sourcesAt s c)) is (directed (c .number) (sourcesAt s c) (is-done .directed)) in
         pair-taken (sourcesAt s c) there (seven .aims)
 
@@ -95,7 +92,7 @@ module _ (s : State) (c : Command) (sound : Sound s) where
         let first = direction (firstDirection (sourcesAt s c)) in
         let second = direction (secondDirection (sourcesAt s c)) in
         let written-two = effect-24 c (sourcesAt s c) is in
-        let room = subst (InRange (c .t)) (effect-done c _ _ _ e ∙ written-two) (target-in-range c _ _ _) in
+        let room = subst (InRange (c .t)) (effect-done c _ _ e ∙ written-two) (target-in-range c _ _) in
         let rows = two-rows s (c .t) first second (omega (arith, sound .rows .count, room)) in
         let step = step-done s c e ∙ ap (applied s (c .t)) written-two in
         let at-t = ap (λ (o : Stepped State). rowAt (o .state .rows) (c .t) .numbers) step ∙ ap (λ (r : ModelRow). r .numbers) (rows .0) in
@@ -123,4 +120,4 @@ module _ (s : State) (c : Command) (sound : Sound s) where
 
   pub step-well : Well s c
   step-well =
-      record { refused-exactly = step-refusal; kept = step-refused s c; orthogonal = done-orthogonal; asserted = λ e. asserted c _ _ _ row-a row-b (is-done e) }
+      record { refused-exactly = step-refusal; kept = step-refused s c; orthogonal = done-orthogonal; asserted = λ e. asserted c _ _ sound-read (is-done e) }

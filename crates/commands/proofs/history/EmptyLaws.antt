@@ -6,9 +6,8 @@ use lib.Dec.{eqb}
 use borrow.Author.Tests.{eqb-true, eqb-false}
 use Rattle.commands.specs.declared.command.Command.{Command}
 use Rattle.commands.specs.Codes.{undo, historyEmpty}
-use Rattle.commands.specs.Rows.{ModelRow}
-use Rattle.commands.specs.Fields.{sourcesOf}
-use Rattle.commands.specs.Results.{Result, Empties, Point, Aim, Aims, Number, Root, Whole, Shows, Undoes}
+use Rattle.commands.specs.Fields.{Read, sourcesOf}
+use Rattle.commands.specs.Results.{Result, Empties, Point, Aim, Aims, Plane, Number, Root, Whole, Shows, Undoes}
 use Rattle.commands.specs.Refusals.{early, refusals, refusalOf, nothingRemembered}
 use Rattle.commands.specs.Answers.{refused}
 use Rattle.commands.specs.Effects.{ModelEffect, Puts, PutsTwo, Restores, Tells, effectOf, commandEffect}
@@ -35,27 +34,28 @@ module _ (m : Bool) where
   result-same n t (Point v) other h = refl
   result-same n t (Aim v) other h = refl
   result-same n t (Aims v w) other h = refl
+  result-same n t (Plane v o) other h = refl
   result-same n t (Number x) other h = refl
   result-same n t (Root r) other h = refl
   result-same n t (Whole k) other h = refl
   result-same n t (Shows i r) other h = refl
   result-same n t Undoes other h = absurd (other (h .1))
 
-  other-same : (c : Command) (a b : ModelRow) → (c .number ≡ undo → ⊥) → Same (commandEffect c a b true)
-  other-same c a b other =
-      effect-any Same c a b true (λ k. refl) (λ d.
-      result-same (c .number) _ _ other (entry-lawful (c .number) (known-number (c .number) (d .known)) .targets (sourcesOf c a b)))
+  other-same : (c : Command) (r : Read) → (c .number ≡ undo → ⊥) → Same (commandEffect c r true)
+  other-same c r other =
+      effect-any Same c r true (λ k. refl) (λ d.
+      result-same (c .number) _ _ other (entry-lawful (c .number) (known-number (c .number) (d .known)) .targets (sourcesOf c r)))
 
-other-refusal : (c : Command) (a b : ModelRow) (m : Bool) → eqb (c .number) undo ≡ false → commandEffect c a b m ≡ commandEffect c a b true
+other-refusal : (c : Command) (r : Read) (m : Bool) → eqb (c .number) undo ≡ false → commandEffect c r m ≡ commandEffect c r true
 unfolding commandEffect refusalOf refusals early nothingRemembered
-other-refusal c a b m e = rw e refl
+other-refusal c r m e = rw e refl
 
-pub by-history : (c : Command) (a b : ModelRow) (m : Bool) → commandEffect c a b m ≡ unlessEmpty m (commandEffect c a b true)
-by-history c a b m = go (eqb (c .number) undo) refl
+pub by-history : (c : Command) (r : Read) (m : Bool) → commandEffect c r m ≡ unlessEmpty m (commandEffect c r true)
+by-history c r m = go (eqb (c .number) undo) refl
   where
-    go : (is : Bool) → eqb (c .number) undo ≡ is → commandEffect c a b m ≡ unlessEmpty m (commandEffect c a b true)
-    go true e = let is = eqb-true (c .number) undo e in effect-undo c a b m is ∙ sym (ap (unlessEmpty m) (effect-undo c a b true is))
-    go false e = other-refusal c a b m e ∙ other-same m c a b (eqb-false (c .number) undo e)
+    go : (is : Bool) → eqb (c .number) undo ≡ is → commandEffect c r m ≡ unlessEmpty m (commandEffect c r true)
+    go true e = let is = eqb-true (c .number) undo e in effect-undo c r m is ∙ sym (ap (unlessEmpty m) (effect-undo c r true is))
+    go false e = other-refusal c r m e ∙ other-same m c r (eqb-false (c .number) undo e)
 
 -- so nothing is taken back but what is remembered
 abbrev pub Remembered : Bool → ModelEffect → Type 0
@@ -71,5 +71,5 @@ unless-remembered true Restores = refl
 unless-remembered false Restores = tt
 unless-remembered m (Tells x) = tt
 
-pub restores-remembered : (c : Command) (a b : ModelRow) (m : Bool) → Remembered m (commandEffect c a b m)
-restores-remembered c a b m = subst (Remembered m) (sym (by-history c a b m)) (unless-remembered m (commandEffect c a b true))
+pub restores-remembered : (c : Command) (r : Read) (m : Bool) → Remembered m (commandEffect c r m)
+restores-remembered c r m = subst (Remembered m) (sym (by-history c r m)) (unless-remembered m (commandEffect c r true))

@@ -5,6 +5,7 @@ use native.Mathlib.Omega.{arith}
 use lib.Ieee.{binary32}
 use lib.Ieee.Fits.{add-fits, mul-fits, neg-fits}
 use Rattle.laws.proofs.numbers.BoolLaws.{cond-any}
+use Rattle.scalar.proofs.floats.FitsLaws.{Fits32}
 use Rattle.vector.specs.declared.vec3.Vec3.{Vec3}
 use Rattle.vector.specs.Operators.{add, sub}
 use Rattle.vector.specs.Elements.{min, max, minPosition, maxPosition}
@@ -18,7 +19,9 @@ use Rattle.vector.specs.Orthogonal.{anyOrthogonalVector, anyOrthonormalPair}
 use Rattle.vector.specs.ExactVectors.{F32Vec}
 use Rattle.vector.proofs.values.VectorFits as Fit
 use Rattle.commands.specs.Codes.{last}
+use Rattle.commands.specs.Rows.{ModelRow}
 use Rattle.commands.specs.Fields.{Sources}
+use Rattle.commands.specs.Planes.{offsetThrough, meeting}
 use Rattle.commands.specs.Results.{isDirection}
 use Rattle.commands.specs.Commands.{byKind, table, entryAt}
 use Rattle.commands.proofs.table.EachLaws.{Each, each-at, _and_}
@@ -38,23 +41,32 @@ second-fits : (a : Vec3) → F32Vec a → F32Vec (anyOrthonormalPair a .second)
 unfolding anyOrthonormalPair
 second-fits a p = record { f32-x = mul-fits binary32 _ _; f32-y = add-fits binary32 _ _; f32-z = neg-fits binary32 (a .y) (p .f32-y) }
 
+-- 34: the offset; 36: the point
+offset-fits : (a n : Vec3) → Fits32 (offsetThrough a n)
+unfolding offsetThrough dot
+offset-fits a n = add-fits binary32 _ _
+
+meeting-fits : (a b : Vec3) (p : ModelRow) → F32Vec (meeting a b p)
+unfolding meeting
+meeting-fits a b p = Fit.sum-vector a _
+
 -- ---- the whole table
 rows-lawful : Each Lawful table
 unfolding table
 rows-lawful =
-    lawful (λ s. refl) (λ s r. refl) (λ s r. refl) (λ s v. tt)
-    and lawful (λ s. refl) (λ s r. refl) (λ s r. refl) (λ s v. record { f32-x = v .fits-u; f32-y = v .fits-v; f32-z = v .fits-w })
-    and lawful (λ s. refl) tt (λ s r. refl) (λ s v. v .fits-a)
+    lawful (λ s. refl) (λ s r. refl) (λ s r. refl) (λ s r. refl) (λ s v. tt)
+    and lawful (λ s. refl) (λ s r. refl) (λ s r. refl) (λ s r. refl) (λ s v. record { f32-x = v .fits-u; f32-y = v .fits-v; f32-z = v .fits-w })
+    and lawful (λ s. refl) tt (λ s r. refl) (λ s r. refl) (λ s v. v .fits-a)
     and pointAB add (λ a b p q. Fit.sum-vector a b)
     and pointAB sub (λ a b p q. Fit.difference-vector a b)
     and pointAB cross (λ a b p q. Fit.cross-vector a b)
     and pointAB min Fit.min-vector
     and pointAB max Fit.max-vector
-    and lawful (λ s. refl) tt (λ s r. refl) (λ s v. Fit.scaled-vector _ _)
-    and lawful (λ s. refl) tt tt (λ s v. Fit.fused-vector _ _ _)
-    and lawful (λ s. refl) tt (λ s r. refl) (λ s v. Fit.clamped-vector _ _ _ (v .fits-a))
-    and lawful (λ s. refl) tt tt (λ s v. byKind-fits _ _ Fit.projected-onto-unit Fit.projected-vector s)
-    and lawful (λ s. refl) tt tt (λ s v. byKind-fits _ _ Fit.rejected-from-unit Fit.rejected-vector s)
+    and lawful (λ s. refl) tt (λ s r. refl) (λ s r. refl) (λ s v. Fit.scaled-vector _ _)
+    and lawful (λ s. refl) tt tt (λ s r. refl) (λ s v. Fit.fused-vector _ _ _)
+    and lawful (λ s. refl) tt (λ s r. refl) (λ s r. refl) (λ s v. Fit.clamped-vector _ _ _ (v .fits-a))
+    and lawful (λ s. refl) tt tt (λ s r. refl) (λ s v. byKind-fits _ _ Fit.projected-onto-unit Fit.projected-vector s)
+    and lawful (λ s. refl) tt tt (λ s r. refl) (λ s v. byKind-fits _ _ Fit.rejected-from-unit Fit.rejected-vector s)
     and pointABU lerp (λ a b u q. Fit.between-vector a b u)
     and pointABU moveTowards Fit.moved-vector
     and pointAB midpoint (λ a b p q. Fit.middle-vector a b)
@@ -64,9 +76,9 @@ rows-lawful =
     and pointAB divEuclid (λ a b p q. Fit.quotient-vector a b)
     and pointAB remEuclid Fit.remainder-vector
     and pointA anyOrthogonalVector Fit.orthogonal-vector
-    and lawful (λ s. refl) tt tt (λ s v. Fit.reflected-vector _ _)
-    and lawful (λ s. refl) tt tt (λ s v. Fit.refracted-vector _ _ _)
-    and lawful (λ s. (refl, refl)) tt (λ s r. refl) (λ s v. search (first-fits, second-fits))
+    and lawful (λ s. refl) tt tt (λ s r. refl) (λ s v. Fit.reflected-vector _ _)
+    and lawful (λ s. refl) tt tt (λ s r. refl) (λ s v. Fit.refracted-vector _ _ _)
+    and lawful (λ s. (refl, refl)) tt (λ s r. refl) (λ s r. refl) (λ s v. search (first-fits, second-fits))
     and numberAB dot
     and rootA lengthAndExactness
     and rootAB distanceAndExactness
@@ -74,8 +86,12 @@ rows-lawful =
     and wholeA minPosition
     and wholeA maxPosition
     and wholeAB (λ (a b : Vec3). bitmask (cmple a b))
-    and lawful (λ s. refl) tt (λ s r. refl) (λ s v. tt)
-    and lawful (λ s. (refl, refl)) (λ s r. refl) (λ s r. refl) (λ s v. tt)
+    and lawful (λ s. refl) tt (λ s r. refl) (λ s r. refl) (λ s v. tt)
+    and lawful (λ s. (refl, refl)) (λ s r. refl) (λ s r. refl) (λ s r. refl) (λ s v. tt)
+    and lawful (λ s. (refl, refl)) tt tt (λ s r. refl) (λ s v. (v .fits-b, offset-fits _ _))
+    and lawful (λ s. refl) tt tt (λ s r. refl) (λ s v. tt)
+    and lawful (λ s. refl) tt tt tt (λ s v. meeting-fits _ _ _)
+    and lawful (λ s. refl) tt (λ s r. refl) (λ s r. refl) (λ s v. tt)
     and tt
 
 -- so of the row of each command that there is

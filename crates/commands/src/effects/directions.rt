@@ -52,6 +52,7 @@ pub(crate) fn direction(v: Vec3) -> Effect
     Effect::Put {
         kind: DIRECTION,
         v: d,
+        offset: 0.0,
     }
 }
 

@@ -5,9 +5,9 @@ use mathlib.Core.List.{List}
 use native.Mathlib.Omega.{arith}
 use lib.ListN.{length, drop, set}
 use lib.Seq.{length-sets}
-use Rattle.vector.specs.ExactVectors.{F32Vec}
 use Rattle.commands.specs.Codes.{rowCount}
 use Rattle.commands.specs.Rows.{ModelRow, withRow}
+use Rattle.commands.proofs.table.EntryLaws.{FitRow}
 use Rattle.sheet.specs.Rows.{rowWidth, rowsFrom, rowWords, putRow}
 use Rattle.sheet.specs.History.{ringOf}
 use Rattle.sheet.specs.Words.{stateWords, modelOf}
@@ -28,6 +28,6 @@ module _ (w : List ℕ) (t : ℕ) (r : ModelRow) where
   unfolding putRow rowWords
   ring-put h = ring-behind w (t * rowWidth) (rowWords r) (omega arith)
 
-  pub rows-put : t < rowCount → stateWords ≤ length w → F32Vec (r .numbers) → modelOf (putRow w t r) .rows ≡ withRow (modelOf w .rows) t r
+  pub rows-put : t < rowCount → stateWords ≤ length w → FitRow r → modelOf (putRow w t r) .rows ≡ withRow (modelOf w .rows) t r
   unfolding modelOf putRow withRow rowWords
   rows-put h l f = rows-written rowCount t w (rowWords r) refl h (omega arith) ∙ ap (set (rowsFrom rowCount w) t) (words-row r f)

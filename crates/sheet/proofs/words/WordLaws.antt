@@ -9,10 +9,10 @@ use lib.ListN.{length, getD, drop, replicate, length-append}
 use lib.Seq.{sets, getD-drop}
 use lib.Ieee.{Float, binary32, ofBits}
 use Rattle.vector.specs.Vectors.{vec}
-use Rattle.vector.specs.ExactVectors.{F32Vec}
 use Rattle.commands.specs.Codes.{rowCount}
-use Rattle.commands.specs.Rows.{rowAt, fresh}
+use Rattle.commands.specs.Rows.{row, rowAt, fresh}
 use Rattle.commands.specs.Model.{isSome}
+use Rattle.commands.proofs.table.EntryLaws.{FitRow}
 use Rattle.sheet.specs.Rows.{rowWidth, wordRow, rowsFrom}
 use Rattle.sheet.specs.History.{ringAt, entriesFrom, ringOf, unwound}
 use Rattle.sheet.specs.Words.{stateWords, modelOf, freshWords}
@@ -26,19 +26,20 @@ row-read w i h = rows-read rowCount i w h
 
 -- by its words, each at its place
 pub row-told :
-    (w : List ℕ) (i : ℕ) (x y z : Float)
+    (w : List ℕ) (i : ℕ) (x y z o : Float)
     → i < rowCount
     → x ≡ ofBits binary32 (getD w (i * rowWidth + 1) 0)
     → y ≡ ofBits binary32 (getD w (i * rowWidth + 2) 0)
     → z ≡ ofBits binary32 (getD w (i * rowWidth + 3) 0)
-    → record { kind = getD w (i * rowWidth) 0; numbers = vec x y z } ≡ rowAt (modelOf w .rows) i
+    → o ≡ ofBits binary32 (getD w (i * rowWidth + 4) 0)
+    → row (getD w (i * rowWidth) 0) (vec x y z) o ≡ rowAt (modelOf w .rows) i
 unfolding wordRow
-row-told w i x y z h ex ey ez =
+row-told w i x y z o h ex ey ez eo =
     let k = i * rowWidth in
     let at : i * rowWidth ≡ i * rowWidth + 0 = omega arith in
-    rw (row-read w i h, getD-drop k w 0 0, getD-drop k w 1 0, getD-drop k w 2 0, getD-drop k w 3 0, ← at, ex, ey, ez)
+    rw (row-read w i h, getD-drop k w 0 0, getD-drop k w 1 0, getD-drop k w 2 0, getD-drop k w 3 0, getD-drop k w 4 0, ← at, ex, ey, ez, eo)
 
-pub row-fits : (w : List ℕ) (i : ℕ) → F32Vec (rowAt (modelOf w .rows) i .numbers)
+pub row-fits : (w : List ℕ) (i : ℕ) → FitRow (rowAt (modelOf w .rows) i)
 unfolding modelOf rowAt
 row-fits w i = rows-fit rowCount w i
 

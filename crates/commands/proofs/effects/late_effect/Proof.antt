@@ -16,7 +16,7 @@ use Rattle.commands.specs.Codes.{directionMissing, allReflected}
 use Rattle.commands.specs.Rows.{ModelRow}
 use Rattle.commands.specs.Results.{Point, Aim, Aims, Number, Root, Whole}
 use Rattle.commands.specs.Commands.{table, entryAt}
-use Rattle.commands.specs.Refusals.{noRefraction, noFactor}
+use Rattle.commands.specs.Refusals.{noRefraction, noMeeting, noFactor}
 use Rattle.commands.specs.Effects.{ModelEffect, unless, settled}
 use Rattle.commands.proofs.LateLaws.{inOrder, arm, past-table}
 use borrow.Author.Needs.{needs}
@@ -49,7 +49,7 @@ abbrev wholes : ℕ → ModelEffect
 wholes n = settled (Whole n)
 
 pub late-effect-spec : {M : Type 1} → statement M
-unfolding inOrder entryAt table noRefraction unless
+unfolding inOrder entryAt table noRefraction noMeeting unless
 late-effect-spec =
     tie.close
     (tie.spec
@@ -89,6 +89,10 @@ late-effect-spec =
     (λ c κs. search needs)
     (λ c κs. search needs)
     (λ c κs. search needs)
+    (λ c κs. search needs)
+    (λ c κs. search needs)
+    (λ c κs. search needs)
+    (λ c κs. search needs)
     -- what each arm returns
     (λ c. arm _ _ 0 (c .before .match .keys1) (c .empties .ensures))
     (λ c. arm _ _ 1 (c .before .before .match .keys2) (c .point .ensures ∙ ap points (c .before .values .ensures)))
@@ -124,4 +128,8 @@ late-effect-spec =
     (λ c. arm _ _ 31 (c .before .before .before .match .keys32) (c .whole3 .ensures ∙ ap wholes (c .before .bitmask .ensures ∙ ap bitmask (c .before .before .cmple .ensures))))
     (λ c. arm _ _ 32 (c .before .match .keys33) (c .shows .ensures))
     (λ c. arm _ _ 33 (c .before .match .keys34) (c .undoes .ensures))
+    (λ c. arm _ _ 34 (c .before .match .keys35) (c .plane .ensures))
+    (λ c. arm _ _ 35 (c .before .match .keys36) (c .height .ensures))
+    (λ c. arm _ _ 36 (c .before .match .keys37) (c .meeting .ensures))
+    (λ c. arm _ _ 37 (c .before .match .keys38) (c .number2 .ensures))
     (λ c. past-table _ _ (c .before .match .rest) (c .empties2 .ensures)))

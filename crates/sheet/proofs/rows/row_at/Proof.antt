@@ -7,10 +7,11 @@ use Rattle.sheet.proofs.rows.row_at.Tie as tie
 
 returns : tie.Need-returns
 returns c =
-    let second = c .before .before in
+    let third = c .before .before in
+    let second = third .before .before in
     let first = second .before .before in
     let args = first .before .before .before .before .args in
-    row-told (args .state .now) (args .i) _ _ _ (omega arith) (first .from-bits .ensures) (second .from-bits2 .ensures) (c .from-bits3 .ensures)
+    row-told (args .state .now) (args .i) _ _ _ _ (omega arith) (first .from-bits .ensures) (second .from-bits2 .ensures) (third .from-bits3 .ensures) (c .from-bits4 .ensures)
 
 pub row-at-spec : {M : Type 1} → statement M
 row-at-spec =
@@ -19,6 +20,10 @@ row-at-spec =
     (λ c. search needs)
     (λ c. search needs)
     (λ c. search needs)
+    (λ c. search needs)
+    (λ c. search needs)
+    (λ c. search needs)
+    (λ c κs. search needs)
     (λ c. search needs)
     (λ c. search needs)
     (λ c. search needs)

@@ -13,16 +13,18 @@ use Rattle.sheet.proofs.step.step.Tie as tie
 
 -- where the function starts
 abbrev start : tie.After-effect-of → tie.Start
-start p = p .before .before .before .before .before .before .before .before .before
+start p = p .before .before .before .before .before .before .before .before .before .before .before .before
 
 -- what is known once the effect is worked out, and of the target once it is seen to write
 effect-found : (p : tie.After-effect-of) → Found (start p .args .state .now) (start p .args .c) (p .effect-of .result)
 effect-found p =
-    let read = p .before .before .before in
-    found _ _ _ _ (p .effect-of .result) (omega (arith, read .before .before .before .before .if1 .left)) (read .row-at .ensures) (p .before .row-at2 .ensures) (p .effect-of .ensures)
+    let second = p .before .before .before in
+    let first = second .before .before in
+    found _ _ _ _ _ (p .effect-of .result) (omega (arith, first .before .before .before .before .before .if1 .left)) (first .row-at .ensures) (second .row-at2 .ensures)
+    (p .before .row-at3 .ensures) (p .effect-of .ensures)
 
 target : (p : tie.After-kind) → start (p .before .before) .args .c .t < rowCount
-target p = put-range (effect-found (p .before .before)) _ _ (p .kind .given .1)
+target p = put-range (effect-found (p .before .before)) _ _ _ (p .kind .given .1)
 
 targets : (p : tie.After-v) → start (p .before .before) .args .c .t + 1 < rowCount
 targets p = two-range (effect-found (p .before .before)) _ _ (p .v .given .1)
@@ -35,13 +37,16 @@ two-remembered p =
 
 -- ---- the needs
 remember-one-requires : tie.Need-remember-one-requires
-remember-one-requires c κs = let h = target (c .before .before .before) in search needs
+remember-one-requires c κs = let p = c .before .before .before in (target p, effect-found (p .before .before) .long)
 
 put-row-requires : tie.Need-put-row-requires
-put-row-requires c κs = let h = target (c .before .before .before .before .before .before .before) in search needs
+put-row-requires c κs =
+    let remembered = c .before .before .before in
+    let p = remembered .before .before .before .before in
+    (target p, remembered-long (effect-found (p .before .before)) _ 1 (remembered .remember-one .ensures))
 
 remember-two-requires : tie.Need-remember-two-requires
-remember-two-requires c κs = let h = targets (c .before .before .before) in search needs
+remember-two-requires c κs = let p = c .before .before .before in (targets p, effect-found (p .before .before) .long)
 
 put-row-requires-2 : tie.Need-put-row-requires-2
 put-row-requires-2 c κs = (omega (arith, targets (c .before .before .before .before .before .before .before)), two-remembered c)
@@ -62,7 +67,7 @@ returns-3 : tie.Need-returns-3
 returns-3 c =
     let remembered = c .before .before .before .before .before .before in
     let p = remembered .before .before .before .before in
-    puts (effect-found (p .before .before)) _ _ _ _ (p .kind .given .1) (remembered .remember-one .ensures) (c .before .before .put-row .ensures)
+    puts (effect-found (p .before .before)) _ _ _ _ _ (p .kind .given .1) (remembered .remember-one .ensures) (c .before .before .put-row .ensures)
 
 returns-4 : tie.Need-returns-4
 returns-4 c =
@@ -84,6 +89,8 @@ step-spec =
     returns
     (λ c. search needs)
     (λ c. search needs)
+    (λ c. search needs)
+    (λ c κs. search needs)
     (λ c κs. search needs)
     (λ c κs. search needs)
     (λ c κs. search needs)
