@@ -48,7 +48,7 @@ pub mod generate;
 pub mod judge;
 pub mod library;
 pub mod oracle;
-mod outcomes;
+pub mod outcomes;
 pub mod pairs;
 pub mod roots;
 pub mod sheet;

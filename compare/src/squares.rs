@@ -1,9 +1,7 @@
 //! Numbers whose roots are exact or just not, and vectors whose lengths and distances are such roots: whole triangles and what is
 //! beside them. All drawn by a seed; a number is the bits of an f32.
 
-use crate::values::{bits_of, either_sign, exact, moved, vector, Draw, Vector};
-
-const SIGN: u32 = 0x8000_0000;
+use crate::values::{bits_of, either_sign, exact, moved, vector, zeros, Draw, Vector, SIGN};
 
 /// A whole number has an exact square in f32 where it has so many bits, but for zeros at its end.
 const SHORT: i32 = 12;
@@ -99,11 +97,6 @@ fn along_axis(d: &mut Draw) -> Vector {
     let length = whole(d, 1, LONG) * scale(d);
     v[d.below(3) as usize] |= bits_of(d, length);
     v
-}
-
-/// Zeros of either sign.
-fn zeros(d: &mut Draw) -> Vector {
-    [(); 3].map(|()| d.word() & SIGN)
 }
 
 /// A whole number of so many bits, from `least` to `most`.

@@ -1,18 +1,18 @@
 //! The table of a sitting: how often each command had each outcome, and the worst values.
 
-use crate::outcomes::{can_have, ABOVE, EXACT, MALFORMED};
+use crate::outcomes::{can_have, ABOVE, EXACT, MALFORMED, PLANE};
 use crate::sheet::COMMANDS;
 use crate::tally::Tally;
 use std::fmt;
 
-/// The outcomes that there are: done, done with an answer of kind 5, then in the order in which the documents have them checked.
-const ORDER: [usize; 11] = [0, EXACT, 1, 2, 3, 11, 4, 5, 8, 7, 6];
+/// The outcomes that there are: done, done with an answer of kind 5 and of kind 6, then in the order in which the documents have them checked.
+const ORDER: [usize; 13] = [0, EXACT, PLANE, 1, 2, 3, 11, 4, 5, 8, 7, 12, 6];
 
 /// The table, the worst values, and what should not have been.
 impl fmt::Display for Tally {
     fn fmt(&self, f: &mut fmt::Formatter) -> fmt::Result {
-        write!(f, "command      done   kind 5")?;
-        for outcome in &ORDER[2..] {
+        write!(f, "command      done   kind 5   kind 6")?;
+        for outcome in &ORDER[3..] {
             write!(f, "{outcome:>9}")?;
         }
         writeln!(f)?;
@@ -32,7 +32,11 @@ impl fmt::Display for Tally {
             }
             writeln!(f)?;
         }
-        writeln!(f, "exact squared length of a direction: at most {:.4} times 2^-24 from 1 (64 allowed)", self.length.steps())?;
+        writeln!(
+            f,
+            "exact squared length of a direction or a normal: at most {:.4} times 2^-24 from 1 (64 allowed)",
+            self.length.steps()
+        )?;
         writeln!(f, "exact dot product of 24's directions: at most {:.4} times 2^-24 (256 allowed)", self.dot.steps())?;
         writeln!(f, "numbers not finite in rows written or brought back: {}", self.not_finite)?;
         if cfg!(feature = "glam-assert") {

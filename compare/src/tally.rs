@@ -4,16 +4,16 @@ use crate::check::Rust;
 use crate::exact::{dot, off_one, Size};
 use crate::outcomes::{can_have, outcome, ABOVE, MALFORMED, OUTCOMES};
 use crate::sheet::lines::{read, write_answer};
-use crate::sheet::{changes, Answer, Command, Kind, Refusal, Sheet, TAKE_BACK};
+use crate::sheet::{changes, Answer, Command, Kind, Refusal, Row, Sheet, TAKE_BACK};
 
-/// Demand 3: squared lengths of directions are within 2^-18 of 1, dot products of 24's directions at most 2^-16.
+/// Demand 3: squared lengths of directions and normals are within 2^-18 of 1, dot products of 24's directions at most 2^-16.
 const LENGTH_BOUND: u32 = 18;
 const DOT_BOUND: u32 = 16;
 
 pub struct Tally {
     sheet: Sheet,
     pub counts: [[u64; OUTCOMES]; MALFORMED + 1],
-    /// How far the exact squared length of a direction was from 1, at most.
+    /// How far the exact squared length of a direction or a normal was from 1, at most.
     pub length: Size,
     /// The largest exact dot product of two of the directions that a 24 read and wrote.
     pub dot: Size,
@@ -50,6 +50,11 @@ impl Tally {
         self.sheet = Sheet::fresh();
     }
 
+    /// The rows as the commands so far leave them.
+    pub fn rows(&self) -> &[Row] {
+        self.sheet.rows()
+    }
+
     /// Answers the command of a line, or refuses a line that has none.
     pub fn answer(&mut self, command: Option<Command>) -> Answer {
         let Some(command) = command else {
@@ -80,8 +85,8 @@ impl Tally {
     /// Looks at so many rows from row t on, which were written or brought back.
     fn look_at(&mut self, t: u32, count: usize) {
         for row in self.sheet.rows().iter().skip(t as usize).take(count) {
-            self.not_finite += row.numbers().iter().filter(|x| !x.is_finite()).count() as u64;
-            if row.kind() == Kind::Direction {
+            self.not_finite += row.numbers().iter().chain(&[row.fourth()]).filter(|x| !x.is_finite()).count() as u64;
+            if matches!(row.kind(), Kind::Direction | Kind::Plane) {
                 self.length = self.length.max(off_one(row.numbers()));
             }
         }

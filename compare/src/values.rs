@@ -4,6 +4,9 @@ use std::f64::consts::SQRT_2;
 
 pub type Vector = [u32; 3];
 
+/// The bit of an f32's sign.
+pub const SIGN: u32 = 0x8000_0000;
+
 /// A stream of random numbers (a shift register of 64 bits).
 pub struct Draw {
     state: u64,
@@ -97,6 +100,18 @@ pub fn around(d: &mut Draw, x: f64) -> u32 {
 
 pub fn either_sign(d: &mut Draw, bits: u32) -> u32 {
     bits ^ (d.word() & 0x8000_0000)
+}
+
+/// Zeros of either sign.
+pub fn zeros(d: &mut Draw) -> Vector {
+    [(); 3].map(|()| d.word() & SIGN)
+}
+
+/// A vector along an axis, with zeros of either sign.
+pub fn along_axis(d: &mut Draw, size: f64) -> Vector {
+    let mut v = zeros(d);
+    v[d.below(3) as usize] |= (size as f32).to_bits();
+    v
 }
 
 /// A power of two, or its product with the root of two.

@@ -18,6 +18,6 @@ fn named_cases_have_their_answers() {
 #[test]
 fn a_fresh_sheet_is_empty() {
     for row in Sheet::fresh().rows() {
-        assert_eq!((row.kind() as u32, row.numbers().map(f32::to_bits)), (0, [0; 3]));
+        assert_eq!(row.words(), [0; 5]);
     }
 }

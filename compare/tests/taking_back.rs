@@ -4,8 +4,8 @@ use compare::sheet::{used, Answer, Command, Row, Sheet, REMEMBERED, TAKE_BACK};
 use compare::sitting::remembered::lists;
 use compare::sitting::Sitting;
 
-/// The sheet as document 02 has it: before each command among 0 to 24 that is done, a copy of all rows is kept with the command's t. The
-/// sheets in it never run a 33.
+/// The sheet as document 02 has it: before each command among 0 to 24, 34 and 36 that is done, a copy of all rows is kept with the command's t.
+/// The sheets in it never run a 33.
 struct Copying {
     sheet: Sheet,
     copies: Vec<(u32, Sheet)>,
@@ -22,7 +22,7 @@ impl Copying {
         }
         let before = self.sheet.clone();
         let answer = self.sheet.run(command);
-        if answer.refusal == 0 && command.number <= 24 {
+        if answer.refusal == 0 && matches!(command.number, 0..=24 | 34 | 36) {
             self.copies.push((command.t, before));
             let forgotten = self.copies.len().saturating_sub(64);
             self.copies.drain(..forgotten);
@@ -41,8 +41,8 @@ impl Copying {
 }
 
 /// All rows, as numbers that can be compared.
-fn rows(sheet: &Sheet) -> Vec<(u32, [u32; 3])> {
-    sheet.rows().iter().map(|row: &Row| (row.kind() as u32, row.numbers().map(f32::to_bits))).collect()
+fn rows(sheet: &Sheet) -> Vec<[u32; 5]> {
+    sheet.rows().iter().map(Row::words).collect()
 }
 
 /// Runs a list on both sheets. Tells how many 33 were done, and how many were refused.
@@ -107,5 +107,5 @@ fn what_is_forgotten_stays() {
 #[test]
 fn it_uses_no_field() {
     let used = used(TAKE_BACK).expect("it is a command");
-    assert!(!used.t && !used.a && !used.b && used.values == 0);
+    assert!(!used.t && ![used.a, used.b, used.u].iter().any(|source| source.is_used()) && used.values == 0);
 }

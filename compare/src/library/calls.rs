@@ -4,7 +4,7 @@ use super::lent::Lent;
 use super::lists::list_refusal;
 use super::{Account, Library, ANSWER};
 use crate::sheet::lines::{self, read, write_answer};
-use crate::sheet::{changes, Answer, Command, Refusal};
+use crate::sheet::{changes, Answer, Command, Refusal, Row};
 use crate::tally::Tally;
 use crate::values::Draw;
 use std::fmt::Debug;
@@ -154,7 +154,8 @@ impl<'a> Calls<'a> {
         }
     }
 
-    /// Holds a call against what is right. Where it changes a row, the words of the sheet may hold anything afterwards.
+    /// Holds a call against what is right. Where it changes a row, the words of all rows have to be those of the plain sheet afterwards, and the
+    /// words behind them, where the sheet remembers, may hold anything.
     fn compare<T: Copy + Debug + PartialEq>(
         &mut self,
         called: impl Fn() -> String,
@@ -167,6 +168,8 @@ impl<'a> Calls<'a> {
         answers.is_to_hold(&right.answers);
         if right.changes {
             self.sheet.may_hold(self.words());
+            let rows: Vec<u32> = self.tally.rows().iter().flat_map(Row::words).collect();
+            self.sheet.is_to_hold(&rows);
         }
         let called = || format!("{}, {} words and room for {} lent", called(), room.words, room.answers);
         self.note(called, result, right.refusal, answers.wrong());

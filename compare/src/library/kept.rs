@@ -67,7 +67,7 @@ impl Kept<'_> {
         lines.split_inclusive(|&byte| byte == b'\n').for_each(|line| self.line(&line[..line.len() - 1]));
     }
 
-    /// Keeps a sheet for at most so many commands and lines, then shows all its rows. Tells how many they were.
+    /// Keeps a sheet for at most so many commands and lines, then shows all its rows and asks for the offset of each. Tells how many they were.
     fn run_sheet(&mut self, most: u64) -> u64 {
         self.fresh();
         let turns = self.sitting.begin(most);
@@ -93,6 +93,7 @@ impl Kept<'_> {
             };
         }
         (0..ROWS).for_each(|a| self.step(&Command::shows(a)));
+        (0..ROWS).for_each(|a| self.step(&Command::offset_of(a)));
         turns
     }
 

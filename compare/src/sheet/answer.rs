@@ -2,12 +2,12 @@
 
 use super::Row;
 
-/// The kinds of answers that show no row: a number, a whole number, a root that is exact. Kinds of rows are below them.
+/// The kinds of answers that show no row: a number, a whole number, a root that is exact. Rows have the other kinds, 0 to 2 and 6.
 const NUMBER: u32 = 3;
 const WHOLE: u32 = 4;
 pub const EXACT_ROOT: u32 = 5;
 
-/// An answer. The values of the kinds 0 to 3 and 5 are bits of f32 numbers.
+/// An answer. The values of all kinds but 4 are bits of f32 numbers.
 #[derive(Clone, Copy, Debug, PartialEq, Eq)]
 pub struct Answer {
     pub refusal: u32,
@@ -22,7 +22,7 @@ impl Answer {
         Answer { refusal: refusal as u32, row: 0, kind: 0, values: [0; 3] }
     }
 
-    /// A row as it is now: its number, kind and numbers.
+    /// A row as it is now: its number, kind and first three numbers, those of a plane's normal.
     pub fn shows(row: u32, shown: &Row) -> Answer {
         Answer { refusal: 0, row, kind: shown.kind() as u32, values: shown.numbers().map(f32::to_bits) }
     }
@@ -55,15 +55,15 @@ impl Answer {
 pub enum Refusal {
     /// Not 45 bytes before a line feed, or a field ill formed; a list that ends within a command.
     Form = 1,
-    /// A command above 33.
+    /// A command above 37.
     Number = 2,
-    /// A used row above 63, or t = 63 in 24.
+    /// A used row above 63, that of u in 36 among them, or t = 63 in 24.
     Row = 3,
-    /// A source empty, or no direction in 22 to 24.
+    /// A source empty, a plane in 2 to 31, no direction in 22 to 24, or in 34 to 37 not of the kind asked for.
     Source = 4,
     /// A used value not finite, in 10 not 0 ≤ u ≤ v, in 23 u outside 0.25 to 4.
     Value = 5,
-    /// A point or number result not finite.
+    /// A point, a number or an offset not finite.
     Result = 6,
     /// No direction in 2 and 22 to 24; in 11 and 12 with b a point 1/(b·b) not finite; in 28 a `length_squared` of zero.
     Direction = 7,
@@ -73,4 +73,6 @@ pub enum Refusal {
     Lent = 9,
     /// Nothing is remembered that 33 could take back.
     History = 11,
+    /// In 36 a computed n·b of zero.
+    Parallel = 12,
 }

@@ -1,23 +1,54 @@
 //! Which fields each command of the plain sheet uses, and what refusals 3 and 5 ask of them.
 
-use super::Command;
+use super::{Command, Kind};
 
 /// How many commands there are, from 0 on.
-pub const COMMANDS: u32 = 34;
+pub const COMMANDS: u32 = 38;
 
 /// The command that takes back the latest one.
 pub const TAKE_BACK: u32 = 33;
+
+/// What a row that a command reads has to be.
+#[derive(Clone, Copy, PartialEq, Eq)]
+pub enum Source {
+    /// The command does not read it.
+    Unused,
+    /// Any row but an empty one.
+    Any,
+    PointOrDirection,
+    Point,
+    Direction,
+    Plane,
+}
+
+impl Source {
+    pub fn is_used(self) -> bool {
+        self != Source::Unused
+    }
+
+    /// Whether a row of a kind is such a one.
+    pub fn takes(self, kind: Kind) -> bool {
+        match self {
+            Source::Unused => true,
+            Source::Any => kind != Kind::Empty,
+            Source::PointOrDirection => matches!(kind, Kind::Point | Kind::Direction),
+            Source::Point => kind == Kind::Point,
+            Source::Direction => kind == Kind::Direction,
+            Source::Plane => kind == Kind::Plane,
+        }
+    }
+}
 
 /// The fields that a command uses.
 #[derive(Clone, Copy)]
 pub struct Used {
     pub t: bool,
-    pub a: bool,
-    pub b: bool,
-    /// How many of the values u, v, w, from u on.
+    pub a: Source,
+    pub b: Source,
+    /// The row whose number is the whole number in u.
+    pub u: Source,
+    /// How many of the values u, v, w are numbers, from u on.
     pub values: usize,
-    /// Whether its sources have to be directions.
-    pub directions: bool,
 }
 
 /// The fields that a command uses; none for a number that is no command.
@@ -43,16 +74,28 @@ const fn table() -> [Used; COMMANDS as usize] {
 
 const fn fields(number: u32) -> Used {
     Used {
-        t: matches!(number, 0..=24),
-        a: matches!(number, 2..=32),
-        b: matches!(number, 3..=7 | 9 | 11..=15 | 19 | 20 | 22 | 23 | 25 | 27 | 28 | 31),
+        t: matches!(number, 0..=24 | 34 | 36),
+        a: match number {
+            2..=21 | 25..=31 => Source::PointOrDirection,
+            22..=24 => Source::Direction,
+            32 => Source::Any,
+            34..=36 => Source::Point,
+            37 => Source::Plane,
+            _ => Source::Unused,
+        },
+        b: match number {
+            3..=7 | 9 | 11..=15 | 19 | 20 | 25 | 27 | 28 | 31 => Source::PointOrDirection,
+            22 | 23 | 34 | 36 => Source::Direction,
+            35 => Source::Plane,
+            _ => Source::Unused,
+        },
+        u: if number == 36 { Source::Plane } else { Source::Unused },
         values: match number {
             1 | 9 => 3,
             10 => 2,
             8 | 13 | 14 | 23 => 1,
             _ => 0,
         },
-        directions: matches!(number, 22..=24),
     }
 }
 
@@ -60,7 +103,10 @@ impl Used {
     /// Whether a used row is above `last`; 24 uses row t + 1 too.
     pub fn row_above(&self, command: &Command, last: u32) -> bool {
         let highest = if command.number == 24 { last - 1 } else { last };
-        (self.t && command.t > highest) || (self.a && command.a > last) || (self.b && command.b > last)
+        (self.t && command.t > highest)
+            || (self.a.is_used() && command.a > last)
+            || (self.b.is_used() && command.b > last)
+            || (self.u.is_used() && command.values[0] > last)
     }
 
     /// Whether every used value is finite, in 10 also 0 ≤ u ≤ v, in 23 also u from 0.25 to 4.

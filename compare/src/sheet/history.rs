@@ -1,4 +1,5 @@
-//! What the plain sheet remembers, so that 33 can take it back: the last done commands among 0 to 24, each by what it wrote over.
+//! What the plain sheet remembers, so that 33 can take it back: the last done commands among 0 to 24, 34 and 36, each by what it wrote
+//! over.
 
 use super::Row;
 use std::collections::VecDeque;

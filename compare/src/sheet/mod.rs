@@ -1,15 +1,16 @@
 //! Document 01's plain sheet, written from the document over the Rust's own functions: rows, commands, answers, one step. As document 02
-//! has it, the sheet takes steps back (request a) and says which lengths and distances are exact roots (request c).
+//! has it, the sheet takes steps back (request a), says which lengths and distances are exact roots (request c), and has planes (request d).
 
 mod answer;
 mod fields;
 mod history;
 pub mod lines;
+mod planes;
 pub mod stream;
 mod work;
 
 pub use answer::{Answer, Refusal, EXACT_ROOT};
-pub use fields::{changes, used, Used, COMMANDS, TAKE_BACK};
+pub use fields::{changes, used, Source, Used, COMMANDS, TAKE_BACK};
 pub use history::REMEMBERED;
 
 use crate::Vec3;
@@ -28,17 +29,37 @@ pub enum Kind {
     Empty = 0,
     Point = 1,
     Direction = 2,
+    Plane = 6,
 }
 
-/// A row: its kind and three numbers, +0 where it is empty.
+/// A row: its kind and four numbers, +0 where it is empty. The first three of a plane are its normal, the fourth is its offset; in other kinds
+/// the fourth is +0.
 #[derive(Clone, Copy)]
 pub struct Row {
     kind: Kind,
     v: Vec3,
+    fourth: f32,
 }
 
 impl Row {
-    const EMPTY: Row = Row { kind: Kind::Empty, v: Vec3::ZERO };
+    const EMPTY: Row = Row { kind: Kind::Empty, v: Vec3::ZERO, fourth: 0.0 };
+
+    fn point(v: Vec3) -> Row {
+        Row { kind: Kind::Point, v, fourth: 0.0 }
+    }
+
+    fn direction(v: Vec3) -> Row {
+        Row { kind: Kind::Direction, v, fourth: 0.0 }
+    }
+
+    fn plane(normal: Vec3, offset: f32) -> Row {
+        Row { kind: Kind::Plane, v: normal, fourth: offset }
+    }
+
+    /// A row of any kind and numbers.
+    pub fn of(kind: Kind, [x, y, z]: [f32; 3], fourth: f32) -> Row {
+        Row { kind, v: Vec3::new(x, y, z), fourth }
+    }
 
     pub fn kind(&self) -> Kind {
         self.kind
@@ -46,6 +67,17 @@ impl Row {
 
     pub fn numbers(&self) -> [f32; 3] {
         [self.v.x, self.v.y, self.v.z]
+    }
+
+    /// The fourth number: the offset of a plane.
+    pub fn fourth(&self) -> f32 {
+        self.fourth
+    }
+
+    /// The kind and the bits of all four numbers.
+    pub fn words(&self) -> [u32; 5] {
+        let [x, y, z] = self.numbers().map(f32::to_bits);
+        [self.kind as u32, x, y, z, self.fourth.to_bits()]
     }
 }
 
@@ -74,6 +106,11 @@ impl Command {
     /// The command that shows row a.
     pub fn shows(a: u32) -> Command {
         Command::of([32, 0, a, 0, 0, 0, 0])
+    }
+
+    /// The command that answers the offset of plane a.
+    pub fn offset_of(a: u32) -> Command {
+        Command::of([37, 0, a, 0, 0, 0, 0])
     }
 }
 
@@ -111,43 +148,38 @@ impl Sheet {
     }
 
     fn step(&mut self, command: &Command) -> Result<Answer, Refusal> {
-        let (a, b) = self.sources(command)?;
-        let effect = work(command.number, &a, &b, command.values.map(f32::from_bits))?;
+        let sources = self.sources(command)?;
+        let effect = work(command.number, &sources, command.values.map(f32::from_bits))?;
         Ok(match effect {
             Effect::Empty => self.write(command.t, Row::EMPTY),
-            Effect::Point(v) => self.write(command.t, Row { kind: Kind::Point, v }),
-            Effect::Direction(v) => self.write(command.t, Row { kind: Kind::Direction, v }),
-            Effect::Pair(first, second) => {
-                self.write_pair(command.t, [first, second].map(|v| Row { kind: Kind::Direction, v }))
-            }
+            Effect::Point(v) => self.write(command.t, Row::point(v)),
+            Effect::Direction(v) => self.write(command.t, Row::direction(v)),
+            Effect::Plane(normal, offset) => self.write(command.t, Row::plane(normal, offset)),
+            Effect::Pair(first, second) => self.write_pair(command.t, [first, second].map(Row::direction)),
             Effect::Number(x) => Answer::number(x),
             Effect::ExactRoot(x) => Answer::exact_root(x),
             Effect::Whole(n) => Answer::whole(n),
-            Effect::Show => Answer::shows(command.a, &a),
+            Effect::Show => Answer::shows(command.a, &sources[0]),
             Effect::TakeBack => self.take_back()?,
         })
     }
 
-    /// The rows a and b, an empty row for one that is not used. Looks for the refusals 2, 3, 4 and 5, in this order.
-    fn sources(&self, command: &Command) -> Result<(Row, Row), Refusal> {
+    /// The rows a and b, and the row that u names; an empty row for one that is not used. Looks for the refusals 2, 3, 4 and 5, in this
+    /// order.
+    fn sources(&self, command: &Command) -> Result<[Row; 3], Refusal> {
         let used = used(command.number).ok_or(Refusal::Number)?;
         if used.row_above(command, ROWS - 1) {
             return Err(Refusal::Row);
         }
-        let read = |is_used: bool, row: u32| if is_used { self.rows[row as usize] } else { Row::EMPTY };
-        let (a, b) = (read(used.a, command.a), read(used.b, command.b));
-        let fit = |is_used: bool, row: &Row| match row.kind {
-            Kind::Direction => true,
-            Kind::Point => !used.directions,
-            Kind::Empty => !is_used,
-        };
-        if !fit(used.a, &a) || !fit(used.b, &b) {
+        let fields = [(used.a, command.a), (used.b, command.b), (used.u, command.values[0])];
+        let sources = fields.map(|(source, row)| if source.is_used() { self.rows[row as usize] } else { Row::EMPTY });
+        if fields.iter().zip(&sources).any(|((source, _), row)| !source.takes(row.kind)) {
             return Err(Refusal::Source);
         }
         if !used.values_allowed(command) {
             return Err(Refusal::Value);
         }
-        Ok((a, b))
+        Ok(sources)
     }
 
     /// Writes row t.
@@ -174,8 +206,8 @@ impl Sheet {
         Ok(Answer::shows(t, &old))
     }
 
-    /// Puts a row in place of another, which is handed back.
-    fn put(&mut self, t: u32, row: Row) -> Row {
+    /// Puts a row in place of another, which is handed back. Nothing is remembered.
+    pub fn put(&mut self, t: u32, row: Row) -> Row {
         mem::replace(&mut self.rows[t as usize], row)
     }
 }

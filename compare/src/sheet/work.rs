@@ -1,5 +1,6 @@
-//! What each command of the plain sheet works out, with the refusals 8, 7 and 6.
+//! What each command of the plain sheet works out, with the refusals 8, 7, 12 and 6.
 
+use super::planes::{meeting, offset, over};
 use super::{Kind, Refusal, Row};
 use crate::roots::is_exact;
 use crate::Vec3;
@@ -9,6 +10,8 @@ pub enum Effect {
     Empty,
     Point(Vec3),
     Direction(Vec3),
+    /// A normal and an offset.
+    Plane(Vec3, f32),
     /// Directions for the rows t and t + 1.
     Pair(Vec3, Vec3),
     Number(f32),
@@ -24,11 +27,11 @@ pub enum Effect {
 /// 2^-126, the least `length_squared` of a vector that has a direction.
 const LEAST: f32 = f32::MIN_POSITIVE;
 
-/// The effect of a command on the rows a and b and the values u, v, w.
+/// The effect of a command on the rows a and b, the row that u names, and the values u, v, w.
 #[inline]
-pub fn work(number: u32, a: &Row, b: &Row, [u, v, w]: [f32; 3]) -> Result<Effect, Refusal> {
-    let onto_direction = b.kind == Kind::Direction;
-    let (a, b) = (a.v, b.v);
+pub fn work(number: u32, [row_a, row_b, named]: &[Row; 3], [u, v, w]: [f32; 3]) -> Result<Effect, Refusal> {
+    let onto_direction = row_b.kind == Kind::Direction;
+    let (a, b) = (row_a.v, row_b.v);
     match number {
         0 => Ok(Effect::Empty),
         1 => point(Vec3::new(u, v, w)),
@@ -71,6 +74,10 @@ pub fn work(number: u32, a: &Row, b: &Row, [u, v, w]: [f32; 3]) -> Result<Effect
         31 => Ok(Effect::Whole(a.cmple(b).bitmask())),
         32 => Ok(Effect::Show),
         33 => Ok(Effect::TakeBack),
+        34 => plane(b, offset(a, b)),
+        35 => measure(over(a, row_b)),
+        36 => point(meeting(a, b, named)?),
+        37 => measure(row_a.fourth),
         _ => Err(Refusal::Number),
     }
 }
@@ -79,6 +86,15 @@ pub fn work(number: u32, a: &Row, b: &Row, [u, v, w]: [f32; 3]) -> Result<Effect
 fn point(v: Vec3) -> Result<Effect, Refusal> {
     if v.is_finite() {
         Ok(Effect::Point(v))
+    } else {
+        Err(Refusal::Result)
+    }
+}
+
+/// A plane, if its offset is finite.
+fn plane(normal: Vec3, offset: f32) -> Result<Effect, Refusal> {
+    if offset.is_finite() {
+        Ok(Effect::Plane(normal, offset))
     } else {
         Err(Refusal::Result)
     }

@@ -1,6 +1,6 @@
 //! Taking back in a sitting: when 33 comes, and how often in a row.
 
-use crate::sheet::{Answer, REMEMBERED, TAKE_BACK};
+use crate::sheet::{Answer, Kind, REMEMBERED, TAKE_BACK};
 use crate::values::Draw;
 
 /// How much is taken back.
@@ -44,7 +44,7 @@ fn searching(d: &mut Draw, last: Last) -> u32 {
     }
     let once_in = match last {
         None => 8,
-        Some((0 | 24, Answer { refusal: 0, .. })) => 8,
+        Some((0 | 24 | 34 | 36, Answer { refusal: 0, .. })) => 8,
         Some((_, Answer { refusal: 0, .. })) => 128,
         Some(_) => 64,
     };
@@ -57,4 +57,9 @@ pub fn brought_back(last: Last) -> Option<u32> {
         Some((TAKE_BACK, Answer { refusal: 0, row, .. })) => Some(row),
         _ => None,
     }
+}
+
+/// Whether the command before was a 33 that brought back a plane.
+pub fn brought_back_plane(last: Last) -> bool {
+    matches!(last, Some((TAKE_BACK, answer)) if answer.kind == Kind::Plane as u32)
 }

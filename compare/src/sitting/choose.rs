@@ -1,38 +1,69 @@
 //! Row fields of a sitting: rows of the right kind, rows brought back, rows that coincide, the last rows, rows that there are not.
 
-use crate::sheet::{Kind, Sheet, Used, ROWS};
+use crate::sheet::{Kind, Sheet, Source, Used, ROWS};
 use crate::values::Draw;
 
 /// A row above the last one, where a row is used, comes once in so many times.
 const ABOVE: u32 = 64;
 
-/// A source of any kind, empty ones included, comes once in so many times.
+/// A source of another kind than the command takes, or of any, comes once in so many times.
 const ANY_SOURCE: u32 = 16;
+
+/// The kinds of such sources; none stands for any.
+const ANY_KIND: [Option<Kind>; 7] = [
+    Some(Kind::Empty),
+    Some(Kind::Empty),
+    Some(Kind::Point),
+    Some(Kind::Direction),
+    Some(Kind::Plane),
+    Some(Kind::Plane),
+    None,
+];
 
 /// Once in so many times 0 empties a row that is empty already.
 const EMPTIED: u32 = 4;
 
-/// The fields t, a and b of a command. If a row was brought back, it or the one behind it is the first source.
-pub fn row_fields(d: &mut Draw, sheet: &Sheet, number: u32, used: &Used, brought_back: Option<u32>) -> (u32, u32, u32) {
-    let a = match brought_back {
-        Some(row) => (row + d.below(2)).min(ROWS - 1),
-        None => source(d, sheet, number, used),
-    };
-    let b = source(d, sheet, number, used);
+/// The row fields of a command, and the row that is to stand in u.
+pub struct RowFields {
+    pub t: u32,
+    pub a: u32,
+    pub b: u32,
+    pub u: Option<u32>,
+}
+
+/// The row fields of a command. If a row was brought back, it or the one behind it is a source: the first that may be of its kind.
+pub fn row_fields(d: &mut Draw, sheet: &Sheet, number: u32, used: &Used, brought_back: Option<u32>) -> RowFields {
+    let wanted = [used.a, used.b, used.u];
+    let mut sources = wanted.map(|wanted| source(d, sheet, number, wanted));
+    if let Some(row) = brought_back {
+        let row = (row + d.below(2)).min(ROWS - 1);
+        let place = wanted.iter().position(|wanted| wanted.is_used() && wanted.takes(kind(sheet, row)));
+        sources[place.unwrap_or(0)] = row;
+    }
+    let [a, b, u] = sources;
     if number == 0 && d.once_in(EMPTIED) {
-        return (find(d, |row| kind(sheet, row) == Kind::Empty), unused_row(d), unused_row(d));
+        return RowFields { t: find(d, |row| kind(sheet, row) == Kind::Empty), a: unused_row(d), b: unused_row(d), u: None };
     }
     let t = if d.once_in(16) { d.one_of(&[0, 62, 63]) } else { d.below(ROWS) };
-    let (t, a, b) = match d.below(12) {
-        0 => (a, a, a),
-        1 => (a, a, b),
-        2 => (b, a, b),
-        3 => (t, a, a),
+    let alike = used.a == used.b || !used.b.is_used();
+    let (t, a, b, u) = match d.below(12) {
+        0 if alike => (a, a, a, u),
+        1 => (a, a, b, u),
+        2 => (b, a, b, u),
+        3 if alike => (t, a, a, u),
         // in 24 the second direction goes where the source was
-        4 => (a.saturating_sub(1), a, b),
-        _ => (t, a, b),
+        4 => (a.saturating_sub(1), a, b, u),
+        // in 36 the point goes where the plane was
+        5 if used.u.is_used() => (u, a, b, u),
+        6 if used.u.is_used() => (a, a, b, a),
+        _ => (t, a, b, u),
     };
-    (field(d, used.t, t), field(d, used.a, a), field(d, used.b, b))
+    RowFields {
+        t: field(d, used.t, t),
+        a: field(d, used.a.is_used(), a),
+        b: field(d, used.b.is_used(), b),
+        u: used.u.is_used().then(|| named_row(d, u)),
+    }
 }
 
 /// A row field that may hold anything.
@@ -55,18 +86,27 @@ fn field(d: &mut Draw, used: bool, row: u32) -> u32 {
     }
 }
 
-/// A source: most often a row of a kind that the command takes.
-fn source(d: &mut Draw, sheet: &Sheet, number: u32, used: &Used) -> u32 {
-    let wanted = if d.once_in(ANY_SOURCE) {
-        d.one_of(&[Some(Kind::Empty), Some(Kind::Point), None])
-    } else if used.directions {
-        Some(Kind::Direction)
-    } else if number == 2 || d.once_in(4) {
-        Some(Kind::Point)
+/// A row whose number stands in u; now and then another number: one that has the row in its last bits, the bits of 1, or the largest.
+fn named_row(d: &mut Draw, row: u32) -> u32 {
+    if d.once_in(ABOVE) {
+        d.one_of(&[64, 999, row + (1 << 6), row + (1 << 8), row + (1 << 16), row | 1 << 31, 1f32.to_bits(), u32::MAX])
     } else {
-        return find(d, |row| kind(sheet, row) != Kind::Empty);
+        row
+    }
+}
+
+/// A source: most often a row of a kind that the command takes.
+fn source(d: &mut Draw, sheet: &Sheet, number: u32, wanted: Source) -> u32 {
+    if d.once_in(ANY_SOURCE) {
+        let any = d.one_of(&ANY_KIND);
+        return find(d, |row| any.is_none_or(|any| kind(sheet, row) == any));
+    }
+    let wanted = match wanted {
+        Source::PointOrDirection if number == 2 || d.once_in(4) => Source::Point,
+        Source::Unused => Source::Any,
+        _ => wanted,
     };
-    find(d, |row| wanted.is_none_or(|wanted| kind(sheet, row) == wanted))
+    find(d, |row| wanted.takes(kind(sheet, row)))
 }
 
 /// The next row that fits, from any on; that one if none does.

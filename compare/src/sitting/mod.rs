@@ -6,6 +6,8 @@ mod lists;
 mod measured;
 pub mod named;
 mod numbers;
+mod plan;
+mod planes;
 pub mod remembered;
 mod spoil;
 pub mod stored;
@@ -13,9 +15,10 @@ pub mod stored;
 use crate::sheet::lines::{read, write_command};
 use crate::sheet::{used, Command, Sheet, COMMANDS, TAKE_BACK};
 use crate::values::{float, Draw};
-use back::{brought_back, Last, Manner};
-use choose::{row_fields, unused_row};
+use back::{brought_back, brought_back_plane, Last, Manner};
+use choose::{row_fields, unused_row, RowFields};
 use numbers::values;
+use plan::Plan;
 use std::collections::VecDeque;
 
 /// How many lines a piece has.
@@ -26,6 +29,9 @@ const WITHIN: u32 = 128;
 
 /// Once in so many times the points of a length or a distance are made for it.
 const MEASURED: u32 = 4;
+
+/// Once in so many times that a command on planes is drawn, a plan of several commands comes in its place.
+const PLANES: u32 = 8;
 
 /// Numbers of commands that there are not.
 const NO_COMMANDS: [u32; 10] = [COMMANDS, COMMANDS + 1, 40, 63, 64, 99, 100, 255, 256, 999];
@@ -115,21 +121,34 @@ impl Sitting {
             1 => Command { number: d.one_of(&NO_COMMANDS), ..any_command(d) },
             2..=16 => self.command_of(1),
             _ => {
-                let number = d.below(TAKE_BACK);
-                if matches!(number, 26 | 27) && d.once_in(MEASURED) {
-                    return self.measured(number);
-                }
-                self.command_of(number)
+                let number = self.number();
+                self.plan(number);
+                self.planned.pop_front().unwrap_or_else(|| self.command_of(number))
             }
         }
     }
 
-    /// A point that is made for a length or a distance; the other point and the measure come next.
-    fn measured(&mut self, number: u32) -> Command {
-        let (d, rows) = (&mut self.draw, self.sheet.rows());
-        let commands = if number == 26 { measured::length(d) } else { measured::distance(d, rows) };
-        self.planned = commands.into();
-        self.planned.pop_front().expect("it is not empty")
+    /// The number of any command but 33; often that of one that reads a plane, where a plane was brought back.
+    fn number(&mut self) -> u32 {
+        let d = &mut self.draw;
+        if brought_back_plane(self.last) && d.once_in(2) {
+            return d.one_of(&[35, 36, 37]);
+        }
+        let number = d.below(COMMANDS - 1);
+        number + u32::from(number >= TAKE_BACK)
+    }
+
+    /// Plans commands in place of one of a number, now and then: points that are made for a length or a distance, with the measure; planes.
+    fn plan(&mut self, number: u32) {
+        let mut plan = Plan::new(&mut self.draw);
+        match (number, self.manner) {
+            (26, _) if plan.d.once_in(MEASURED) => measured::length(&mut plan),
+            (27, _) if plan.d.once_in(MEASURED) => measured::distance(&mut plan, self.sheet.rows()),
+            (34..=37, Manner::Searching) if plan.d.once_in(PLANES) => planes::any(&mut plan),
+            (34..=37, Manner::Ordinary) if plan.d.once_in(PLANES) => planes::parapet(&mut plan),
+            _ => {}
+        }
+        self.planned = plan.commands.into();
     }
 
     /// A command of a number.
@@ -137,9 +156,10 @@ impl Sitting {
         let d = &mut self.draw;
         let used = used(number).expect("there is the command");
         let brought_back = brought_back(self.last).filter(|_| d.once_in(2));
-        let (t, a, b) = row_fields(d, &self.sheet, number, &used, brought_back);
+        let RowFields { t, a, b, u } = row_fields(d, &self.sheet, number, &used, brought_back);
         let rows = [a, b].map(|row| self.sheet.rows()[(row % 64) as usize].numbers().map(f32::to_bits));
-        Command { number, t, a, b, values: values(d, number, &used, rows, self.sheet.rows()) }
+        let [first, v, w] = values(d, number, &used, rows, self.sheet.rows());
+        Command { number, t, a, b, values: [u.unwrap_or(first), v, w] }
     }
 }
 

@@ -4,12 +4,14 @@
 use super::{remembered, Sitting};
 use crate::cases::{cases, CASES};
 use crate::sheet::lines::{read, write_command};
-use crate::sheet::{Command, COMMANDS};
+use crate::sheet::{used, Command, Source, COMMANDS};
 use std::iter;
 
-/// A row that the named cases leave empty, and one that they leave a direction.
+/// The rows that the named cases leave empty, a point, a direction and a plane.
 const EMPTY: u32 = 20;
+const POINT: u32 = 22;
 const DIRECTION: u32 = 12;
+const PLANE: u32 = 21;
 
 /// Document 01's listing.
 pub const LISTING: &str = "  1  0  0  0 1077936128 1082130432          0
@@ -93,21 +95,33 @@ impl Sitting {
     }
 }
 
-/// A command with each of its fields in turn as it must not be: a row above 63, an empty source, a value that is not finite. The
-/// other fields are right, and so is each field that the command does not use: 33 is done in each case.
+/// A command with each of its fields in turn as it must not be: a row above 63, a source that is empty or of each kind, a value that is not
+/// finite. The other fields are right, and so is each field that the command does not use: 33 is done in each case.
 fn refused(number: u32) -> Vec<Command> {
-    let right = Command { number, t: 1, a: DIRECTION, b: DIRECTION, values: [ONE; 3] };
-    let mut commands = vec![
-        Command { t: 64, ..right },
-        Command { a: 64, ..right },
-        Command { b: 64, ..right },
-        Command { a: EMPTY, ..right },
-        Command { b: EMPTY, ..right },
-    ];
+    let used = used(number).expect("there is the command");
+    let u = if used.u.is_used() { row_for(used.u) } else { ONE };
+    let right = Command { number, t: 1, a: row_for(used.a), b: row_for(used.b), values: [u, ONE, ONE] };
+    let mut commands = vec![Command { t: 64, ..right }];
+    for row in [64, EMPTY, POINT, DIRECTION, PLANE] {
+        commands.push(Command { a: row, ..right });
+        commands.push(Command { b: row, ..right });
+        if used.u.is_used() {
+            commands.push(Command { values: [row, ONE, ONE], ..right });
+        }
+    }
     for place in 0..3 {
         let mut command = right;
         command.values[place] = INFINITY;
         commands.push(command);
     }
     commands
+}
+
+/// A row that is such a source.
+fn row_for(source: Source) -> u32 {
+    match source {
+        Source::Point => POINT,
+        Source::Plane => PLANE,
+        _ => DIRECTION,
+    }
 }

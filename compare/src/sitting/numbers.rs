@@ -2,8 +2,8 @@
 
 use crate::sheet::{Row, Used};
 use crate::values::{
-    around, bits_of, exact, float, measure, moved, near, power, related_vector, short, unit_vector, vector, with_exponent,
-    Draw, Vector,
+    along_axis, around, bits_of, exact, float, measure, moved, near, power, related_vector, short, unit_vector, vector,
+    with_exponent, Draw, Vector,
 };
 
 /// A used value that is not finite, where one is drawn, is drawn again, but for one in so many times.
@@ -76,13 +76,6 @@ fn point(d: &mut Draw, sheet: &[Row]) -> Vector {
             related_vector(d, &[row])
         }
     }
-}
-
-/// A vector along an axis, with zeros of either sign.
-fn along_axis(d: &mut Draw, size: f64) -> Vector {
-    let mut v = [(); 3].map(|()| d.word() & 0x8000_0000);
-    v[d.below(3) as usize] |= (size as f32).to_bits();
-    v
 }
 
 /// What 9 adds to the products of the components: any vector, one that nearly takes the products off, or one that decides how they

@@ -2,11 +2,13 @@
 
 use compare::library::Library;
 use compare::sheet::lines::{read, write_answer};
-use compare::sheet::{changes, Answer, Command, Refusal, Sheet};
+use compare::sheet::{changes, Answer, Command, Refusal, Row, Sheet, ROWS};
 use std::cell::RefCell;
 
-/// The words of a sheet here. The first is the place of the sheet among those that there were, of which place 0 is the fresh one.
-pub const WORDS: usize = 3;
+/// The words of a row, and of a sheet here: the rows, and the place of the sheet among those that there were, of which place 0 is the fresh one.
+pub const ROW: usize = 5;
+const PLACE: usize = ROWS as usize * ROW;
+pub const WORDS: usize = PLACE + 1;
 
 thread_local! {
     static SHEETS: RefCell<Vec<Sheet>> = RefCell::new(vec![Sheet::fresh()]);
@@ -31,10 +33,12 @@ fn answer(words: &mut [u32], command: &Command) -> Answer {
         return Answer::refused(Refusal::Lent);
     }
     SHEETS.with_borrow_mut(|sheets| {
-        let mut sheet = sheets[words[0] as usize].clone();
+        let mut sheet = sheets[words[PLACE] as usize].clone();
         let answer = sheet.run(command);
         if answer.refusal == 0 && changes(command.number) {
-            words[0] = sheets.len() as u32;
+            words[PLACE] = sheets.len() as u32;
+            let rows: Vec<u32> = sheet.rows().iter().flat_map(Row::words).collect();
+            words[..PLACE].copy_from_slice(&rows);
             sheets.push(sheet);
         }
         answer
