@@ -9,4 +9,5 @@ pub mod CommandLaws
 pub mod claim
 pub mod ClaimLaws
 pub mod RootAnswerLaws
+pub mod PlaneLaws
 pub mod history

@@ -13,6 +13,7 @@ pub mod CommandSets
 pub mod Claim
 pub mod HistoryMeaning
 pub mod RootAnswers
+pub mod PlaneCommands
 pub mod Sittings
 pub mod PlaneCorners
 pub mod Corners

@@ -1,7 +1,7 @@
 -- Truth values joined and compared, the choice that one makes, and the test of a number for 0. Assumes nothing.
 use Prim.Native.Nat.{ℕ, zero, suc, _<_}
 use mathlib.Core.Path.{_≡_, refl}
-use mathlib.Core.Bool.{Bool, true, false, not, cond, _&&_, Bool·beq}
+use mathlib.Core.Bool.{Bool, true, false, not, cond, _&&_, _||_, Bool·beq}
 use native.Mathlib.Omega.{arith}
 use lib.Dec.{T, eqb, eqb·suc-zero}
 
@@ -12,6 +12,10 @@ and-true false = refl
 pub and-false : (s : Bool) → s && false ≡ false
 and-false true = refl
 and-false false = refl
+
+pub or-false : (s : Bool) → s || false ≡ s
+or-false true = refl
+or-false false = refl
 
 pub beq-same : (s t : Bool) → T (Bool·beq s t) → s ≡ t
 beq-same true true h = refl
