@@ -1,4 +1,4 @@
-/* The aiming bench as a library for C and Rust: IEEE 754 functions on floats, and a sheet of points and directions on which commands run.
+/* The aiming bench as a library for C and Rust: IEEE 754 functions on floats, and a sheet of points, directions and planes on which commands run.
 
    `rt staticlib capi` proves the functions and writes them to target/staticlib/libcapi.a. A program needs this header and that file, and no other library but C's own.
 
@@ -38,8 +38,9 @@ float bench_rem(float a, float b);
 
 /* ---- A sheet, its commands and their answers.
 
-   A sheet has 64 rows, numbered from 0 to 63. A row is empty, or it holds a point or a direction: three floats. A fresh sheet is empty. A command reads rows, may write one or two, and is answered.
-   A sheet remembers the last 64 commands among 0 to 24 that were done and not taken back; refused ones and those above 24 are not remembered.
+   A sheet has 64 rows, numbered from 0 to 63. A row is empty, or it holds a point or a direction, three floats, or a plane, a direction that is its normal and a float, its offset: a point p lies in it where
+   normal.p is the offset. A fresh sheet is empty. A command reads rows, may write one or two, and is answered.
+   A sheet remembers the last 64 commands among 0 to 24, 34 and 36 that were done and not taken back; refused ones and the others are not remembered.
 
    A command is seven numbers: its own number, the row t that it writes, the rows a and b that it reads, and the values u, v and w, which are the bits of floats (0x3f800000 is 1). Fields that a
    command does not use may hold any number. a and b below stand for what these rows hold before anything is written.
@@ -62,29 +63,37 @@ float bench_rem(float a, float b);
      14  t a b u   from a towards b by u                 32  a         shows a
      15  t a b     midpoint of a and b                   33            takes back the latest command that is remembered
      16  t a       a cut toward zero
+     34  t a b     the plane through point a with direction b as its normal; its offset is b.a
+     35  a b       how far point a is over plane b: a's dot product with the normal, less the offset
+     36  t a b u   the point where the line from point a along direction b, to either side, meets the plane in the row whose number is u itself (3 for row 3, not the bits of a float):
+                   a + b * ((offset - n.a) / (n.b)), n the normal, rounded after each operation
+     37  a         the offset of plane a
 
-   Commands 2 and 22 to 24 make t a direction, 1 and 3 to 21 a point. After 33 all rows are as they were before the command that it takes back, both rows of 24 among them; that command is no longer
-   remembered, and nothing can be redone.
+   The rows that 2 to 21 and 25 to 31 read are points or directions, those of 22 to 24 directions, and that of 32 is not empty.
+   Commands 2 and 22 to 24 make t a direction, 1, 3 to 21 and 36 a point, 34 a plane. After 33 all rows are as they were before the command that it takes back, both rows of 24 among them; that command
+   is no longer remembered, and nothing can be redone.
 
    An answer is six numbers: refusal, row, kind and three values. The refusal is 0 where the command was done, and then row and values are, by the kind,
 
      0  a row that is empty, t of command 0 or in 33 that of the command taken back; the values are 0
      1  a row that is a point, t, in command 32 a, or in 33 row t of the command taken back, as it is now; the values are the bits of its floats
      2  a row that is a direction, likewise
-     3  row 0; the first value is the bits of a float (commands 25 to 28), the others are 0
+     3  row 0; the first value is the bits of a float (commands 25 to 28, 35 and 37), the others are 0
      4  row 0; the first value is a whole number (commands 29 to 31), the others are 0
      5  as 3, in place of it in 26 and 27 where the root is exact: its square is the sum of squares under it, which may itself have been rounded
+     6  a row that is a plane, t of command 34, in 32 a, or in 33 row t of the command taken back, as it is now; the values are the bits of its normal's floats
 
-   Where the refusal is not 0, no row has changed, the same commands are remembered, and the other five numbers are 0. Of these it is the first that holds, in the order 2, 3, 11, 4, 5, 8, 7, 6:
+   Where the refusal is not 0, no row has changed, the same commands are remembered, and the other five numbers are 0. Of these it is the first that holds, in the order 2, 3, 11, 4, 5, 8, 7, 12, 6:
 
-     2  the command's number is above 33
-     3  a row that the command uses is above 63, or t is 63 in 24
+     2  the command's number is above 37
+     3  a row that the command uses is above 63, that of u in 36 among them, or t is 63 in 24
     11  in 33 no command is remembered
-     4  a row that it reads is empty, or is no direction in 22 to 24
+     4  a row that it reads is empty, or not of a kind that it reads: see above
      5  a value that it uses is not finite; in 10 not 0 <= u <= v; in 23 u is not from 0.25 to 4
      8  in 23 all is reflected and nothing refracted
      7  there is no direction in 2, 22, 23 or 24; in 11 and 12 with a point b, 1/(b.b) is not finite; in 28 a squared length is 0
-     6  the point or the number is not finite
+    12  in 36 n.b is 0 or -0 as it is computed
+     6  the point, the number or the offset is not finite
 
    A line or a list is refused by 1 where its form is wrong, and a call by 9 where it is lent too little: each function says what happens then. */
 
@@ -102,7 +111,7 @@ uint32_t bench_run(const uint32_t *commands, size_t count, uint32_t *answers, si
 /* ---- A sheet that a program keeps.
 
    It lies in the first bench_words() of the `words` words that the program lends to each call; those behind it are always left as they were. What a sheet's words hold is the library's matter, but for this:
-   zeros are a fresh sheet, a copy of the words is a copy of the sheet with what it remembers, and a command that is refused or is one of 25 to 32 leaves every word as it was. */
+   zeros are a fresh sheet, a copy of the words is a copy of the sheet with what it remembers, and a command that is refused or is one of 25 to 32, 35 and 37 leaves every word as it was. */
 
 /* How many words a sheet has. */
 size_t bench_words(void);

@@ -1,4 +1,4 @@
-/* Keeps a sheet over several calls from C: commands one by one, a line, a list, a command that is refused, and one that is taken back.
+/* Keeps a sheet over several calls from C: commands one by one, a line, a list, a command that is refused, one that is taken back, and a plane.
    rt staticlib capi && gcc -I include examples/callers/kept.c target/staticlib/libcapi.a -o target/kept && target/kept */
 #include "bench.h"
 #include <inttypes.h>
@@ -82,6 +82,14 @@ int main(void)
         printf("the list is refused by %" PRIu32 "\n", refusal);
     for (int i = 0; refusal == 0 && i < 3; i++)
         show("in the list", answers + i * BENCH_ANSWER);
+
+    /* the plane through row 0 with the direction in row 2 as its normal into row 5, how far row 1 is over it, and where the line from row 1 along row 2 meets it: u is the number of the plane's row */
+    bench_step(sheet, words, 34, 5, 0, 2, 0, 0, 0, answer, BENCH_ANSWER);
+    show("a plane, by its normal", answer);
+    bench_step(sheet, words, 35, 0, 1, 5, 0, 0, 0, answer, BENCH_ANSWER);
+    show("row 1 over the plane", answer);
+    bench_step(sheet, words, 36, 6, 1, 2, 5, 0, 0, answer, BENCH_ANSWER);
+    show("where the line meets it", answer);
 
     free(sheet);
     return 0;

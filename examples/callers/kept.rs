@@ -1,4 +1,4 @@
-// Keeps a sheet over several calls from Rust: commands one by one, a line, a list, a command that is refused, and one that is taken back.
+// Keeps a sheet over several calls from Rust: commands one by one, a line, a list, a command that is refused, one that is taken back, and a plane.
 // rt staticlib capi && rustc -O examples/callers/kept.rs -L target/staticlib -l static=capi -o target/kept && target/kept
 
 extern "C" {
@@ -81,4 +81,9 @@ fn main() {
     println!("a line: {:?}", sheet.respond("  2  2  0  0          0          0          0"));
     // two directions orthogonal to row 2 into rows 3 and 4, the dot product of rows 2 and 4, and the greatest component of row 1
     println!("a list: {:?}", sheet.run(&[[24, 3, 2, 0, 0, 0, 0], [25, 0, 2, 4, 0, 0, 0], [30, 0, 1, 0, 0, 0, 0]]));
+    // the plane through row 0 with the direction in row 2 as its normal into row 5, how far row 1 is over it, and where the line from row 1 along row 2 meets it: u is the number of the plane's row
+    println!("a plane: {:?}", sheet.step([34, 5, 0, 2, 0, 0, 0]));
+    let over = sheet.step([35, 0, 1, 5, 0, 0, 0]).map(|answer| f32::from_bits(answer[3]));
+    println!("row 1 over the plane: {over:?}");
+    println!("where the line meets it: {:?}", sheet.step([36, 6, 1, 2, 5, 0, 0]));
 }

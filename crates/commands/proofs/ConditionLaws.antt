@@ -44,11 +44,6 @@ pub record NoneOfFive (p q r s t : Bool) : Type 0 where
 pub none-of-five : (p q r s t : Bool) → (p || q || r || s || t) ≡ false → NoneOfFive p q r s t
 none-of-five p q r s t e = let last = none-of-two (p || q || r || s) t e in record { front = none-of-four p q r s (last .0); fifth-not = last .1 }
 
-pub second-of-three : (p q r : Bool) → q ≡ true → (p || q || r) ≡ true
-second-of-three true q r e = refl
-second-of-three false true r e = refl
-second-of-three false false r e = absurd (false≢true e)
-
 -- a condition with a premise that is met
 pub met : (p q : Bool) → p ≡ true → (p && q) ≡ false → q ≡ false
 met true q t e = e

@@ -9,7 +9,7 @@ use lib.Ieee.{eq}
 use lib.Ieee.Scale.{finite}
 use lib.Ieee.Bits.{is-true}
 use borrow.Author.Tests.{eqb-true, le-ltb, ne-eqb}
-use Rattle.laws.proofs.numbers.BoolLaws.{and-true, or-false, beq-same}
+use Rattle.laws.proofs.numbers.BoolLaws.{and-true, or-true, or-false, beq-same}
 use Rattle.vector.specs.Vectors.{zer}
 use Rattle.vector.specs.Products.{dot}
 use Rattle.vector.specs.Comparisons.{isFinite}
@@ -24,7 +24,7 @@ use Rattle.commands.specs.Effects.{effectOf}
 use Rattle.commands.specs.Model.{applied, isSome, stepOf}
 use Rattle.commands.specs.Claim.{sourcesAt, refusalAt}
 use Rattle.commands.specs.PlaneCommands.{isOf, vectorAt, offsetAt, offset34, number35, point36, refusedBy, unlessFinite, above63, RefusedBy, PlaneCommands}
-use Rattle.commands.proofs.ConditionLaws.{met, second-of-three}
+use Rattle.commands.proofs.ConditionLaws.{met}
 use Rattle.commands.proofs.CommandSetLaws.{allBelow, below}
 use Rattle.commands.proofs.claim.StepLaws.{step-done}
 
@@ -59,6 +59,14 @@ in-order false false false false true true true false false = refl
 abbrev noPlane : (Uses → Kinds) → ℕ → Bool
 noPlane source n = Bool·beq (isUsed (source (entryAt n .uses)) && allows (source (entryAt n .uses)) planeKind) false
 
+no-plane-a : T (allBelow (noPlane (λ (k : Uses). k .a)) 32)
+unfolding entryAt table allows
+no-plane-a = tt
+
+no-plane-b : T (allBelow (noPlane (λ (k : Uses). k .b)) 32)
+unfolding entryAt table allows
+no-plane-b = tt
+
 module _ (s : State) (c : Command) (h : c .number ≤ 31) where
   refuses-plane :
       (source : Uses → Kinds) → T (allBelow (noPlane source) 32) → isUsed (source (entryAt (c .number) .uses)) ≡ true
@@ -80,15 +88,12 @@ module _ (s : State) (c : Command) (h : c .number ≤ 31) where
   unfit bad = rw (known, no-undo, bad) refl
 
   as-a : isUsed (entryAt (c .number) .uses .a) ≡ true → isOf planeKind s (c .a) ≡ true → refusalAt s c ≡ cond (noRow c) rowOutside unfitSource
-  unfolding badSource entryAt table allows
-  as-a used e = unfit (rw (refuses-plane (λ (k : Uses). k .a) tt used (c .a) e) refl)
+  unfolding badSource
+  as-a used e = unfit (simp (refuses-plane (λ (k : Uses). k .a) no-plane-a used (c .a) e))
 
   as-b : isUsed (entryAt (c .number) .uses .b) ≡ true → isOf planeKind s (c .b) ≡ true → refusalAt s c ≡ cond (noRow c) rowOutside unfitSource
-  unfolding badSource entryAt table allows
-  as-b used e =
-      let uses = entryAt (c .number) .uses in
-      unfit (second-of-three (not (allows (uses .a) (rowAt (s .rows) (c .a) .kind))) _ (not (allows (uses .row) (rowAt (s .rows) (c .u) .kind)))
-      (refuses-plane (λ (k : Uses). k .b) tt used (c .b) e))
+  unfolding badSource
+  as-b used e = unfit (simp (refuses-plane (λ (k : Uses). k .b) no-plane-b used (c .b) e, or-true))
 
 refusal-37 : RefusedBy 37 (λ s c. refusedBy (above63 (c .a)) (isOf planeKind s (c .a)) (unlessFinite (finite (offsetAt s (c .a)))))
 unfolding refusalOf refusals early late first unknown noRow nothingRemembered badSource outOfOrder outOfRange badValue noRefraction noDirection noMeeting lacksDirection notFinite entryAt table allows

@@ -17,22 +17,19 @@ use Rattle.commands.specs.Commands.{entryAt}
 use Rattle.commands.specs.Refusals.{badSource, outOfOrder, outOfRange, badValue, lacksDirection, noFactor, noDirection}
 use Rattle.commands.proofs.ConditionLaws.{met, none-of-two, none-of-four}
 
--- 4: each row is of a kind that the command takes
-pub record FitKinds (n kindA kindB kindRow : ℕ) : Type 0 where
+-- 4: rows a and b are of kinds that the command takes
+pub record FitKinds (n kindA kindB : ℕ) : Type 0 where
   pub fit-a : allows (entryAt n .uses .a) kindA ≡ true
   pub fit-b : allows (entryAt n .uses .b) kindB ≡ true
-  pub fit-row : allows (entryAt n .uses .row) kindRow ≡ true
 
-pub fit-kinds : (n kindA kindB kindRow : ℕ) → badSource n kindA kindB kindRow ≡ false → FitKinds n kindA kindB kindRow
+pub fit-kinds : (n kindA kindB kindRow : ℕ) → badSource n kindA kindB kindRow ≡ false → FitKinds n kindA kindB
 unfolding badSource
 fit-kinds n kindA kindB kindRow h =
     let uses = entryAt n .uses in
     let fits-a = allows (uses .a) kindA in
     let fits-b = allows (uses .b) kindB in
-    let fits-row = allows (uses .row) kindRow in
-    let last = none-of-two (not fits-a || not fits-b) (not fits-row) h in
-    let front = none-of-two (not fits-a) (not fits-b) (last .0) in
-    record { fit-a = not-false fits-a (front .0); fit-b = not-false fits-b (front .1); fit-row = not-false fits-row (last .1) }
+    let front = none-of-two (not fits-a) (not fits-b) (none-of-two (not fits-a || not fits-b) (not (allows (uses .row) kindRow)) h .0) in
+    record { fit-a = not-false fits-a (front .0); fit-b = not-false fits-b (front .1) }
 
 -- 5: in 10, 0 ≤ u ≤ v
 pub clamps-ordered : (n : ℕ) (u v w : Float) → badValue n u v w ≡ false → eqb n 10 ≡ true → T (le zer u) × T (le u v)

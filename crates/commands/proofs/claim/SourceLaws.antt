@@ -24,12 +24,11 @@ pub record Held (n : ℕ) (e : Entry) (s : Sources) : Type 0 where
   pub row-b : SoundRow (s .b)
   pub fit-a : allows (e .uses .a) (s .a .kind) ≡ true
   pub fit-b : allows (e .uses .b) (s .b .kind) ≡ true
-  pub fit-row : allows (e .uses .row) (s .row .kind) ≡ true
   pub ordered : eqb n 10 ≡ true → T (le zer (s .u)) × T (le (s .u) (s .v))
   pub factor : (eqb n 11 || eqb n 12) ≡ true → noFactor (s .b) ≡ false
   pub lengths : eqb n 28 ≡ true → (zeroLength (s .a .numbers) ≡ false) × (zeroLength (s .b .numbers) ≡ false)
 
--- each row that a command may read is sound
+-- rows a and b are sound; what 36 takes from the row of its plane is tested when the point is there
 pub record SoundRead (r : Read) : Type 0 where
   pub row-a : SoundRow (r .a)
   pub row-b : SoundRow (r .b)
@@ -43,7 +42,6 @@ held c r m sound d =
       row-b = sound .row-b;
       fit-a = kinds .fit-a;
       fit-b = kinds .fit-b;
-      fit-row = kinds .fit-row;
       ordered = clamps-ordered (c .number) _ _ _ (d .values-fit);
       factor = seven .factor;
       lengths = seven .lengths;

@@ -4,6 +4,7 @@ use mathlib.Core.Path.{_≡_, refl, sym, subst, _∙_}
 use mathlib.Core.Bool.{Bool, true, false, _&&_, _||_, true≢false, false≢true}
 use lib.Dec.{eqb, ltb}
 use borrow.Author.Tests.{eqb-true, lt-ltb}
+use Rattle.laws.proofs.numbers.BoolLaws.{or-true}
 use Rattle.commands.specs.declared.command.Command.{Command}
 use Rattle.commands.specs.Codes.{last}
 use Rattle.commands.specs.Rows.{ModelRow}
@@ -57,25 +58,11 @@ refused-early c r s m h = go (unknown (c .number)) (noRow c) refl refl h
     go false false e f h = absurd (false≢true h)
 
 -- 3: a row above 63 that is used
-second-holds : (p r s t : Bool) → (p || true || r || s || t) ≡ true
-second-holds true r s t = refl
-second-holds false r s t = refl
-
-third-holds : (p s t : Bool) → (p || true || s || t) ≡ true
-third-holds true s t = refl
-third-holds false s t = refl
-
-fourth-holds : (p t : Bool) → (p || true || t) ≡ true
-fourth-holds true t = refl
-fourth-holds false t = refl
-
 used-outside : (i : Source) (c : Command) → 63 < numberIn i c → usesSource i (c .number) ≡ true → noRow c ≡ true
 unfolding noRow
-used-outside A c l u = rw (u, lt-ltb 63 (c .a) l) (second-holds (entryAt (c .number) .uses .t && ltb 63 (c .t)) _ _ _)
-used-outside B c l u = rw (u, lt-ltb 63 (c .b) l) (third-holds (entryAt (c .number) .uses .t && ltb 63 (c .t) || usesSource A (c .number) && ltb 63 (c .a)) _ _)
-used-outside U c l u =
-    let front = entryAt (c .number) .uses .t && ltb 63 (c .t) || usesSource A (c .number) && ltb 63 (c .a) || usesSource B (c .number) && ltb 63 (c .b) in
-    rw (u, lt-ltb 63 (c .u) l) (fourth-holds front _)
+used-outside A c l u = simp (u, lt-ltb 63 (c .a) l, or-true)
+used-outside B c l u = simp (u, lt-ltb 63 (c .b) l, or-true)
+used-outside U c l u = simp (u, lt-ltb 63 (c .u) l, or-true)
 
 -- ---- a source that is not used
 is-unused : (k : Kinds) → isUsed k ≡ false → k ≡ Unused

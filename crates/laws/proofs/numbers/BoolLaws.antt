@@ -13,6 +13,10 @@ pub and-false : (s : Bool) → s && false ≡ false
 and-false true = refl
 and-false false = refl
 
+pub or-true : (s : Bool) → s || true ≡ true
+or-true true = refl
+or-true false = refl
+
 pub or-false : (s : Bool) → s || false ≡ s
 or-false true = refl
 or-false false = refl
