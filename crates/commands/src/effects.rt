@@ -31,6 +31,8 @@ use crate::effects::results::root;
 use crate::effects::results::whole;
 use crate::refusal::refusal;
 use crate::row::Row;
+use crate::row::StoredRow;
+use crate::row::row_of;
 use scalar::bits::from_bits;
 use vector::vec3::Vec3;
 
@@ -82,7 +84,7 @@ fn values(c: Command) -> Vec3
 }
 
 // The command by its number, an arm for each row of the table (specs/Commands); refusals 8, 7 and 6 are given where they arise.
-pub(crate) fn late_effect(c: Command, a: Row, b: Row, p: Row) -> Effect
+pub(crate) fn late_effect(c: Command, a: Row, b: Row, p: StoredRow) -> Effect
     ensures { λ r. ⌜ effectBy r ≡ lateEffect c (sourcesOf c (readOf a b p)) ⌝ }
 {
     let n = c.number;
@@ -123,7 +125,7 @@ pub(crate) fn late_effect(c: Command, a: Row, b: Row, p: Row) -> Effect
         33 => undoes(),
         34 => plane(a.v, b.v),
         35 => height(a.v, b),
-        36 => meeting(a.v, b.v, p),
+        36 => meeting(a.v, b.v, row_of(p)),
         37 => number(a.offset),
         // 2 has refused the numbers that are not in the table
         _ => empties(),
@@ -131,8 +133,8 @@ pub(crate) fn late_effect(c: Command, a: Row, b: Row, p: Row) -> Effect
 }
 
 // What a command comes to, from rows a and b and the row whose number is field u, where there is a command to take back: whether there is one the caller sees,
-// and 33 alone depends on it.
-pub fn effect_of(c: Command, a: Row, b: Row, p: Row) -> Effect
+// and 33 alone depends on it. The last row comes as it is stored, since 36 alone makes numbers of its bits.
+pub fn effect_of(c: Command, a: Row, b: Row, p: StoredRow) -> Effect
     ensures { λ r. ⌜ effectBy r ≡ commandEffect c (readOf a b p) true ⌝ }
 {
     let k = refusal(c, a.kind, b.kind, p.kind);

@@ -10,13 +10,14 @@ use lib.Ieee.{Float}
 use lib.Seq.{sets}
 use Rattle.vector.specs.declared.vec3.Vec3.{Vec3}
 use Rattle.commands.specs.declared.row.Row.{Row}
+use Rattle.commands.specs.declared.row.StoredRow.{StoredRow}
 use Rattle.commands.specs.declared.command.Command.{Command}
 use Rattle.commands.specs.declared.command.Answer.{Answer}
 use Rattle.commands.specs.declared.command.Answer.the-variants.{Shown}
 use Rattle.commands.specs.declared.effects.Effect.{Effect}
 use Rattle.commands.specs.declared.effects.Effect.the-variants.{Tell, Put, PutTwo, Restore}
 use Rattle.commands.specs.Codes.{rowCount, directionKind, lentTooShort, historyEmpty}
-use Rattle.commands.specs.Rows.{ModelRow, row, direction, rowOf, rowAt}
+use Rattle.commands.specs.Rows.{ModelRow, row, direction, rowOf, storedRow, rowAt}
 use Rattle.commands.specs.Fields.{readOf}
 use Rattle.commands.specs.Answers.{refused, answerOf, numbersOf}
 use Rattle.commands.specs.Effects.{ModelEffect, Restores, Tells, commandEffect, effectBy}
@@ -37,15 +38,15 @@ pub record Found (w : List ℕ) (c : Command) (d : Effect) : Type 0 where
   pub long : stateWords ≤ length w
   pub same : effectOn (modelOf w) c ≡ unlessEmpty (isSome (modelOf w .history)) (effectBy d)
 
-below : (rows : List ModelRow) (i : ℕ) (a : Row) → rowOf a ≡ rowAt rows (i % 64) → i < rowCount → rowOf a ≡ rowAt rows i
-below rows i a e h = let k : i % 64 ≡ i = omega arith in e ∙ ap (rowAt rows) k
+below : (rows : List ModelRow) (i : ℕ) {a : ModelRow} → a ≡ rowAt rows (i % 64) → i < rowCount → a ≡ rowAt rows i
+below rows i e h = let k : i % 64 ≡ i = omega arith in e ∙ ap (rowAt rows) k
 
 pub found :
-    (w : List ℕ) (c : Command) (a b r : Row) (d : Effect)
+    (w : List ℕ) (c : Command) (a b : Row) (r : StoredRow) (d : Effect)
     → stateWords ≤ length w
     → rowOf a ≡ rowAt (modelOf w .rows) (c .a % 64)
     → rowOf b ≡ rowAt (modelOf w .rows) (c .b % 64)
-    → rowOf r ≡ rowAt (modelOf w .rows) (c .u % 64)
+    → storedRow r ≡ rowAt (modelOf w .rows) (c .u % 64)
     → effectBy d ≡ commandEffect c (readOf a b r) true
     → Found w c d
 found w c a b r d l ea eb er e =
@@ -57,9 +58,9 @@ found w c a b r d l ea eb er e =
     rows = modelOf w .rows
 
     same : (i : Source) → numberIn i c < rowCount → rowIn i (readOf a b r) ≡ rowIn i (readAt (modelOf w) c)
-    same A = below rows (c .a) a ea
-    same B = below rows (c .b) b eb
-    same U = below rows (c .u) r er
+    same A = below rows (c .a) ea
+    same B = below rows (c .b) eb
+    same U = below rows (c .u) er
 
 module _ {w : List ℕ} {c : Command} {d : Effect} (f : Found w c d) where
   abbrev some : Bool

@@ -5,11 +5,12 @@ ghost use mathlib.Core.List.{[], _∷_};
 ghost use Prim.Native.Nat.{_+_, _≤_, _<_};
 ghost use lib.ListN.{length};
 ghost use lib.Seq.{sets};
-ghost use Rattle.commands.specs.Rows.{row, rowOf, rowAt};
+ghost use Rattle.commands.specs.Rows.{row, rowOf, storedRow, rowAt};
 ghost use Rattle.sheet.specs.Rows.{putRow};
 ghost use Rattle.sheet.specs.Words.{stateWords, modelOf};
 use commands::row::Row;
-use scalar::bits::from_bits;
+use commands::row::StoredRow;
+use commands::row::row_of;
 use scalar::bits::to_bits;
 use vector::vec3::Vec3;
 
@@ -18,21 +19,27 @@ pub(crate) const ROW_WIDTH: usize = 5;
 
 pub const STATE_WORDS: usize = 1089;
 
+// Row i, as it is stored.
+pub(crate) fn stored_at(state: &[u32], i: usize) -> StoredRow
+    requires { ⌜ (i < 64) × (stateWords ≤ length (now state)) ⌝ }
+    ensures { λ r. ⌜ storedRow r ≡ rowAt (modelOf (now (state .entry)) .rows) i ⌝ }
+{
+    let k = i * ROW_WIDTH;
+    StoredRow {
+        kind: state[k],
+        x: state[k + 1],
+        y: state[k + 2],
+        z: state[k + 3],
+        offset: state[k + 4],
+    }
+}
+
 // Row i.
 pub(crate) fn row_at(state: &[u32], i: usize) -> Row
     requires { ⌜ (i < 64) × (stateWords ≤ length (now state)) ⌝ }
     ensures { λ r. ⌜ rowOf r ≡ rowAt (modelOf (now (state .entry)) .rows) i ⌝ }
 {
-    let k = i * ROW_WIDTH;
-    Row {
-        kind: state[k],
-        v: Vec3 {
-            x: from_bits(state[k + 1]),
-            y: from_bits(state[k + 2]),
-            z: from_bits(state[k + 3]),
-        },
-        offset: from_bits(state[k + 4]),
-    }
+    row_of(stored_at(state, i))
 }
 
 pub(crate) fn put_five(state: &mut [u32], at: usize, kind: u32, x: u32, y: u32, z: u32, w: u32)

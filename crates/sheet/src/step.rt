@@ -16,6 +16,7 @@ use crate::history::restore;
 use crate::rows::STATE_WORDS;
 use crate::rows::put_row;
 use crate::rows::row_at;
+use crate::rows::stored_at;
 use commands::codes::DIRECTION;
 use commands::codes::HISTORY_EMPTY;
 use commands::codes::LENT_TOO_SHORT;
@@ -49,7 +50,7 @@ pub fn step(state: &mut [u32], c: Command) -> Answer
     let u = (c.u % 64) as usize;
     let row_a = row_at(state, a);
     let row_b = row_at(state, b);
-    let row_u = row_at(state, u);
+    let row_u = stored_at(state, u);
     match effect_of(c, row_a, row_b, row_u) {
         Effect::Tell(x) => x,
         Effect::Put { kind, v, offset } => {

@@ -12,8 +12,9 @@ use Rattle.vector.specs.Masks.{bitmask}
 use Rattle.vector.specs.LengthClamps.{clampLength}
 use Rattle.vector.specs.Interpolation.{lerp, moveTowards, mulAdd}
 use Rattle.vector.specs.Optics.{refract, refractK}
-use Rattle.commands.specs.Codes.{directionMissing, allReflected}
+use Rattle.commands.specs.Codes.{directionMissing, allReflected, lineParallel}
 use Rattle.commands.specs.Rows.{ModelRow}
+use Rattle.commands.specs.Planes.{isParallel, meeting}
 use Rattle.commands.specs.Results.{Point, Aim, Aims, Number, Root, Whole}
 use Rattle.commands.specs.Commands.{table, entryAt}
 use Rattle.commands.specs.Refusals.{noRefraction, noMeeting, noFactor}
@@ -47,6 +48,9 @@ roots r = settled (Root r)
 
 abbrev wholes : ℕ → ModelEffect
 wholes n = settled (Whole n)
+
+abbrev meets : Vec3 → Vec3 → ModelRow → ModelEffect
+meets a b p = unless lineParallel (isParallel b p) (points (meeting a b p))
 
 pub late-effect-spec : {M : Type 1} → statement M
 unfolding inOrder entryAt table noRefraction noMeeting unless
@@ -90,7 +94,7 @@ late-effect-spec =
     (λ c κs. search needs)
     (λ c κs. search needs)
     (λ c κs. search needs)
-    (λ c κs. search needs)
+    (λ c κs. search needs) (λ c κs. search needs)
     (λ c κs. search needs)
     (λ c κs. search needs)
     -- what each arm returns
@@ -130,6 +134,6 @@ late-effect-spec =
     (λ c. arm _ _ 33 (c .before .match .keys34) (c .undoes .ensures))
     (λ c. arm _ _ 34 (c .before .match .keys35) (c .plane .ensures))
     (λ c. arm _ _ 35 (c .before .match .keys36) (c .height .ensures))
-    (λ c. arm _ _ 36 (c .before .match .keys37) (c .meeting .ensures))
+    (λ c. arm _ _ 36 (c .before .before .match .keys37) (c .meeting .ensures ∙ ap (meets _ _) (c .before .row-of .ensures)))
     (λ c. arm _ _ 37 (c .before .match .keys38) (c .number2 .ensures))
     (λ c. past-table _ _ (c .before .match .rest) (c .empties2 .ensures)))
