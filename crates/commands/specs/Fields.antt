@@ -7,10 +7,8 @@ use lib.Dec.{eqb}
 use lib.ListN.{getD}
 use lib.Ieee.{Float, binary32, ofBits}
 use Rattle.commands.specs.declared.command.Command.{Command}
-use Rattle.commands.specs.declared.row.Row.{Row}
-use Rattle.commands.specs.declared.row.StoredRow.{StoredRow}
 use Rattle.commands.specs.Codes.{emptyKind, pointKind, directionKind, planeKind}
-use Rattle.commands.specs.Rows.{ModelRow, rowOf, storedRow}
+use Rattle.commands.specs.Rows.{ModelRow}
 
 -- the kinds that a row may have, where a command uses it as a source
 pub data Kinds : Type 0 where
@@ -94,8 +92,8 @@ pub record Read : Type 0 where
   pub b : ModelRow
   pub row : ModelRow
 
-abbrev pub readOf : Row → Row → StoredRow → Read
-readOf a b row = record { a = rowOf a; b = rowOf b; row = storedRow row }
+abbrev pub read : ModelRow → ModelRow → ModelRow → Read
+read a b row = record { a = a; b = b; row = row }
 
 -- what a command works on: the number of row a, those rows, and its values, given as bits
 pub record Sources : Type 0 where
