@@ -6,7 +6,7 @@ use lib.ListN.{take}
 use Rattle.commands.specs.declared.command.Command.{Command}
 use Rattle.commands.specs.Codes.{historyDepth, historyEmpty}
 use Rattle.commands.specs.Rows.{ModelRow, Snapshot, State, rowAt, withRow}
-use Rattle.commands.specs.Fields.{Read, read}
+use Rattle.commands.specs.Fields.{Read}
 use Rattle.commands.specs.Answers.{ModelAnswer, refused, shown}
 use Rattle.commands.specs.Effects.{ModelEffect, Puts, PutsTwo, Restores, Tells, commandEffect}
 
@@ -46,7 +46,7 @@ isSome (p ∷ rest) = true
 
 -- one command: "sources are read before anything is written"; "No refusal changes a row"
 abbrev pub readAt : State → Command → Read
-readAt s c = read (rowAt (s .rows) (c .a)) (rowAt (s .rows) (c .b)) (rowAt (s .rows) (c .u))
+readAt s c = record { a = rowAt (s .rows) (c .a); b = rowAt (s .rows) (c .b); row = rowAt (s .rows) (c .u) }
 
 abbrev pub effectOn : State → Command → ModelEffect
 effectOn s c = commandEffect c (readAt s c) (isSome (s .history))

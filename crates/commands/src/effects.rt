@@ -8,8 +8,8 @@ ghost use mathlib.Core.Path.{_≡_};
 ghost use mathlib.Core.Bool.{true};
 ghost use lib.Ieee.{binary32, ofBits};
 ghost use Rattle.vector.specs.Vectors.{vec};
-ghost use Rattle.commands.specs.Rows.{rowOf, storedRow};
-ghost use Rattle.commands.specs.Fields.{read, sourcesOf};
+ghost use Rattle.commands.specs.Rows.{rowOf};
+ghost use Rattle.commands.specs.Fields.{readOf, sourcesOf};
 ghost use Rattle.commands.specs.Results as Results;
 ghost use Rattle.commands.specs.Effects.{effectBy, settled, lateEffect, commandEffect};
 use crate::codes::EMPTY;
@@ -85,7 +85,7 @@ fn values(c: Command) -> Vec3
 
 // The command by its number, an arm for each row of the table (specs/Commands); refusals 8, 7 and 6 are given where they arise.
 pub(crate) fn late_effect(c: Command, a: Row, b: Row, p: StoredRow) -> Effect
-    ensures { λ r. ⌜ effectBy r ≡ lateEffect c (sourcesOf c (read (rowOf a) (rowOf b) (storedRow p))) ⌝ }
+    ensures { λ r. ⌜ effectBy r ≡ lateEffect c (sourcesOf c (readOf a b p)) ⌝ }
 {
     let n = c.number;
     match n {
@@ -133,13 +133,13 @@ pub(crate) fn late_effect(c: Command, a: Row, b: Row, p: StoredRow) -> Effect
 }
 
 // What a command comes to, from rows a and b and the row whose number is field u, where there is a command to take back: whether there is one the caller sees,
-// and 33 alone depends on it. The rows come as they are stored: numbers are made of their bits where the command is worked out, and of the last row's in 36 alone.
-pub fn effect_of(c: Command, a: StoredRow, b: StoredRow, p: StoredRow) -> Effect
-    ensures { λ r. ⌜ effectBy r ≡ commandEffect c (read (storedRow a) (storedRow b) (storedRow p)) true ⌝ }
+// and 33 alone depends on it. The last row comes as it is stored, since 36 alone makes numbers of its bits.
+pub fn effect_of(c: Command, a: Row, b: Row, p: StoredRow) -> Effect
+    ensures { λ r. ⌜ effectBy r ≡ commandEffect c (readOf a b p) true ⌝ }
 {
     let k = refusal(c, a.kind, b.kind, p.kind);
     if k == 0 {
-        late_effect(c, row_of(a), row_of(b), p)
+        late_effect(c, a, b, p)
     } else {
         Effect::Tell(Answer::Refused(k))
     }

@@ -9,6 +9,7 @@ use lib.ListN.{length}
 use lib.Ieee.{Float}
 use lib.Seq.{sets}
 use Rattle.vector.specs.declared.vec3.Vec3.{Vec3}
+use Rattle.commands.specs.declared.row.Row.{Row}
 use Rattle.commands.specs.declared.row.StoredRow.{StoredRow}
 use Rattle.commands.specs.declared.command.Command.{Command}
 use Rattle.commands.specs.declared.command.Answer.{Answer}
@@ -16,8 +17,8 @@ use Rattle.commands.specs.declared.command.Answer.the-variants.{Shown}
 use Rattle.commands.specs.declared.effects.Effect.{Effect}
 use Rattle.commands.specs.declared.effects.Effect.the-variants.{Tell, Put, PutTwo, Restore}
 use Rattle.commands.specs.Codes.{rowCount, directionKind, lentTooShort, historyEmpty}
-use Rattle.commands.specs.Rows.{ModelRow, row, direction, storedRow, rowAt}
-use Rattle.commands.specs.Fields.{Read, read}
+use Rattle.commands.specs.Rows.{ModelRow, row, direction, rowOf, storedRow, rowAt}
+use Rattle.commands.specs.Fields.{readOf}
 use Rattle.commands.specs.Answers.{refused, answerOf, numbersOf}
 use Rattle.commands.specs.Effects.{ModelEffect, Restores, Tells, commandEffect, effectBy}
 use Rattle.commands.specs.Model.{Stepped, stepped, applied, restored, isSome, readAt, effectOn}
@@ -41,24 +42,22 @@ below : (rows : List ModelRow) (i : ℕ) {a : ModelRow} → a ≡ rowAt rows (i 
 below rows i e h = let k : i % 64 ≡ i = omega arith in e ∙ ap (rowAt rows) k
 
 pub found :
-    (w : List ℕ) (c : Command) (a b r : StoredRow) (d : Effect)
+    (w : List ℕ) (c : Command) (a b : Row) (r : StoredRow) (d : Effect)
     → stateWords ≤ length w
-    → storedRow a ≡ rowAt (modelOf w .rows) (c .a % 64)
-    → storedRow b ≡ rowAt (modelOf w .rows) (c .b % 64)
+    → rowOf a ≡ rowAt (modelOf w .rows) (c .a % 64)
+    → rowOf b ≡ rowAt (modelOf w .rows) (c .b % 64)
     → storedRow r ≡ rowAt (modelOf w .rows) (c .u % 64)
-    → effectBy d ≡ commandEffect c (read (storedRow a) (storedRow b) (storedRow r)) true
+    → effectBy d ≡ commandEffect c (readOf a b r) true
     → Found w c d
 found w c a b r d l ea eb er e =
     let some = isSome (modelOf w .history) in
-    record { long = l; same = by-history c (readAt (modelOf w) c) some ∙ ap (unlessEmpty some) (sym (e ∙ effect-rows c stored (readAt (modelOf w) c) true same)) }
+    let read = effect-rows c (readOf a b r) (readAt (modelOf w) c) true same in
+    record { long = l; same = by-history c (readAt (modelOf w) c) some ∙ ap (unlessEmpty some) (sym (e ∙ read)) }
   where
     rows : List ModelRow
     rows = modelOf w .rows
 
-    stored : Read
-    stored = read (storedRow a) (storedRow b) (storedRow r)
-
-    same : (i : Source) → numberIn i c < rowCount → rowIn i stored ≡ rowIn i (readAt (modelOf w) c)
+    same : (i : Source) → numberIn i c < rowCount → rowIn i (readOf a b r) ≡ rowIn i (readAt (modelOf w) c)
     same A = below rows (c .a) ea
     same B = below rows (c .b) eb
     same U = below rows (c .u) er

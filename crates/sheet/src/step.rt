@@ -15,6 +15,7 @@ use crate::history::remembers;
 use crate::history::restore;
 use crate::rows::STATE_WORDS;
 use crate::rows::put_row;
+use crate::rows::row_at;
 use crate::rows::stored_at;
 use commands::codes::DIRECTION;
 use commands::codes::HISTORY_EMPTY;
@@ -47,8 +48,8 @@ pub fn step(state: &mut [u32], c: Command) -> Answer
     let a = (c.a % 64) as usize;
     let b = (c.b % 64) as usize;
     let u = (c.u % 64) as usize;
-    let row_a = stored_at(state, a);
-    let row_b = stored_at(state, b);
+    let row_a = row_at(state, a);
+    let row_b = row_at(state, b);
     let row_u = stored_at(state, u);
     match effect_of(c, row_a, row_b, row_u) {
         Effect::Tell(x) => x,

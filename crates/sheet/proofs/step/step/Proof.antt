@@ -20,8 +20,8 @@ effect-found : (p : tie.After-effect-of) → Found (start p .args .state .now) (
 effect-found p =
     let second = p .before .before .before in
     let first = second .before .before in
-    found _ _ _ _ _ (p .effect-of .result) (omega (arith, first .before .before .before .before .before .if1 .left)) (first .stored-at .ensures) (second .stored-at2 .ensures)
-    (p .before .stored-at3 .ensures) (p .effect-of .ensures)
+    found _ _ _ _ _ (p .effect-of .result) (omega (arith, first .before .before .before .before .before .if1 .left)) (first .row-at .ensures) (second .row-at2 .ensures)
+    (p .before .stored-at .ensures) (p .effect-of .ensures)
 
 target : (p : tie.After-kind) → start (p .before .before) .args .c .t < rowCount
 target p = put-range (effect-found (p .before .before)) _ _ _ (p .kind .given .1)
@@ -43,7 +43,7 @@ put-row-requires : tie.Need-put-row-requires
 put-row-requires c κs =
     let remembered = c .before .before .before in
     let p = remembered .before .before .before .before in
-    (target p, remembered-long (effect-found (p .before .before)) _ 1 (remembered .remember-one .ensures))
+    (omega (arith, target p), remembered-long (effect-found (p .before .before)) _ 1 (remembered .remember-one .ensures))
 
 remember-two-requires : tie.Need-remember-two-requires
 remember-two-requires c κs = let p = c .before .before .before in (targets p, effect-found (p .before .before) .long)
