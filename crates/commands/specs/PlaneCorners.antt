@@ -79,6 +79,8 @@ pub record PlaneCorners : Type 0 where
   offset-told : lastOf (answersTo (then (offsetAt 4))) ≡ answer 0 0 3 0x40000000 0 0
   above : lastOf (answersTo (then (over 5 4))) ≡ answer 0 0 3 0x3f800000 0 0
   met : lastOf (answersTo (then (meets 6 5 3 4))) ≡ answer 0 6 1 0x40a00000 0x40000000 0x3f800000
+  -- 36 along another direction than the normal, (0, -3, 2) made a direction: as far down as the plane is, and two thirds of that along z
+  met-aslant : lastOf (answersTo (carriageway ++ (aimAt 8 0 0xc0400000 0x40000000 ++ (meets 6 5 9 4 ∷ [])))) ≡ answer 0 6 1 0x40a00000 0x40000000 0x3fd55556
   -- "Answers of .. 32 .. on a plane, show the normal"
   shown : lastOf (answersTo (then (showAt 4))) ≡ answer 0 4 6 0 0x3f800000 0
   -- "read before anything is written": 36 into the row of its plane, and that row is then a point, which has no offset
@@ -110,6 +112,7 @@ pub record PlaneCorners : Type 0 where
   beside : lastOf (answersTo (crossing (aimAt 2 0 0x3f800000 0) (aimAt 6 0x3f800000 0 0 ++ (meets 8 0 7 4 ∷ [])))) ≡ refused 12
   vanished : lastOf (answersTo (crossing (aimAt 2 0x3f800000 0x0d800000 0) (aimAt 6 0 0x0d800000 0x3f800000 ++ (meets 8 0 7 4 ∷ [])))) ≡ refused 12
   vanished-below : lastOf (answersTo (crossing (aimAt 2 0x3f800000 0x0d800000 0x80000000) (aimAt 6 0x80000000 0x8d800000 0x3f800000 ++ (meets 8 0 7 4 ∷ [])))) ≡ refused 12
+  beside-above : lastOf (answersTo (carriageway ++ (aimAt 6 0x3f800000 0 0 ++ (meets 8 5 7 4 ∷ [])))) ≡ refused 12
   -- where it is merely small the quotient is infinite
   grazing : lastOf (answersTo (pointAt 0 0x3f800000 0 0 ∷ (aimAt 2 0x3f800000 0x0d800000 0 ++ planed ++ aimAt 6 0 0x2f800000 0x3f800000 ++ (pointAt 5 0 0 0 ∷ meets 8 5 7 4 ∷ [])))) ≡ refused 6
   -- "checked just before 6": there 36 is 12, 34 and 35 are 6
@@ -137,6 +140,7 @@ plane-corners = record {
   offset-told = refl;
   above = refl;
   met = refl;
+  met-aslant = refl;
   shown = refl;
   over-plane = refl;
   no-plane = refl;
@@ -161,6 +165,7 @@ plane-corners = record {
   beside = refl;
   vanished = refl;
   vanished-below = refl;
+  beside-above = refl;
   grazing = refl;
   both = refl;
   offset-infinite = refl;
