@@ -40,20 +40,20 @@ does n s c is e = step-done s c e ∙ ap (λ (k : ℕ). applied s (c .t) (effect
 
 -- ---- 3, 4, 12 and 6 in this order, by rows t, a, b and u that are above 63 (p, q, r, o), sources of the kind that is asked for (x, y, z), a parallel line (l) and
 -- a finite result (f)
-in-order :
+first-of-four :
     (p q r o x y z l f : Bool)
     → cond (p || q || r || o || false) rowOutside (cond (not x || not y || not z) unfitSource (cond l lineParallel (cond (not f) resultInfinite 0)))
     ≡ refusedBy (p || q || r || o) (x && y && z) (cond l lineParallel (unlessFinite f))
-in-order true q r o x y z l f = refl
-in-order false true r o x y z l f = refl
-in-order false false true o x y z l f = refl
-in-order false false false true x y z l f = refl
-in-order false false false false false y z l f = refl
-in-order false false false false true false z l f = refl
-in-order false false false false true true false l f = refl
-in-order false false false false true true true true f = refl
-in-order false false false false true true true false true = refl
-in-order false false false false true true true false false = refl
+first-of-four true q r o x y z l f = refl
+first-of-four false true r o x y z l f = refl
+first-of-four false false true o x y z l f = refl
+first-of-four false false false true x y z l f = refl
+first-of-four false false false false false y z l f = refl
+first-of-four false false false false true false z l f = refl
+first-of-four false false false false true true false l f = refl
+first-of-four false false false false true true true true f = refl
+first-of-four false false false false true true true false true = refl
+first-of-four false false false false true true true false false = refl
 
 -- ---- the earlier commands: each that uses a source refuses a plane there
 abbrev noPlane : (Uses → Kinds) → ℕ → Bool
@@ -99,7 +99,7 @@ refusal-37 : RefusedBy 37 (λ s c. refusedBy (above63 (c .a)) (isOf planeKind s 
 unfolding refusalOf refusals early late first unknown noRow nothingRemembered badSource outOfOrder outOfRange badValue noRefraction noDirection noMeeting lacksDirection notFinite entryAt table allows
 refusal-37 s c is =
     at-number 37 s c is
-    ∙ in-order false (above63 (c .a)) false false (isOf planeKind s (c .a)) true true false (finite (offsetAt s (c .a)))
+    ∙ first-of-four false (above63 (c .a)) false false (isOf planeKind s (c .a)) true true false (finite (offsetAt s (c .a)))
     ∙ simp (or-false (above63 (c .a)), and-true (isOf planeKind s (c .a)))
 
 pub plane-commands : PlaneCommands
@@ -107,17 +107,17 @@ unfolding refusalOf refusals early late first unknown noRow nothingRemembered ba
 plane-commands = record {
   refused-34 = λ s c is.
       at-number 34 s c is
-      ∙ in-order (above63 (c .t)) (above63 (c .a)) (above63 (c .b)) false (isOf pointKind s (c .a)) (isOf directionKind s (c .b)) true false (finite (offset34 s c))
+      ∙ first-of-four (above63 (c .t)) (above63 (c .a)) (above63 (c .b)) false (isOf pointKind s (c .a)) (isOf directionKind s (c .b)) true false (finite (offset34 s c))
       ∙ simp (or-false (above63 (c .t) || above63 (c .a) || above63 (c .b)), and-true (isOf pointKind s (c .a) && isOf directionKind s (c .b)));
   does-34 = does 34;
   refused-35 = λ s c is.
       at-number 35 s c is
-      ∙ in-order false (above63 (c .a)) (above63 (c .b)) false (isOf pointKind s (c .a)) (isOf planeKind s (c .b)) true false (finite (number35 s c))
+      ∙ first-of-four false (above63 (c .a)) (above63 (c .b)) false (isOf pointKind s (c .a)) (isOf planeKind s (c .b)) true false (finite (number35 s c))
       ∙ simp (or-false (above63 (c .a) || above63 (c .b)), and-true (isOf pointKind s (c .a) && isOf planeKind s (c .b)));
   does-35 = does 35;
   refused-36 = λ s c is.
       at-number 36 s c is
-      ∙ in-order (above63 (c .t)) (above63 (c .a)) (above63 (c .b)) (above63 (c .u)) (isOf pointKind s (c .a)) (isOf directionKind s (c .b)) (isOf planeKind s (c .u))
+      ∙ first-of-four (above63 (c .t)) (above63 (c .a)) (above63 (c .b)) (above63 (c .u)) (isOf pointKind s (c .a)) (isOf directionKind s (c .b)) (isOf planeKind s (c .u))
       (eq (dot (vectorAt s (c .u)) (vectorAt s (c .b))) zer) (isFinite (point36 s c));
   does-36 = does 36;
   refused-37 = refusal-37;
