@@ -125,7 +125,7 @@ unfoldable pub first : List Refusal → ℕ
 first [] = 0
 first (r ∷ rest) = cond (r .holds) (r .number) (first rest)
 
--- "Checked in the order .. 2, 3, 4, 5, 8, 7, 6": those that the fields, the history and the sources' kinds decide, then those that the work decides
+-- "Checked in the order .. 2, 3, 4, 5, 8, 7, 6", 11 "checked after 3", 12 "checked just before 6": those that the fields, the history and the sources' kinds decide, then those that the work decides
 unfoldable pub early : Command → Bool → ℕ → ℕ → ℕ → List Refusal
 early c remembers kindA kindB kindRow =
     refuses unknownCommand (unknown (c .number))

@@ -83,7 +83,7 @@ fn values(c: Command) -> Vec3
     }
 }
 
-// The command by its number, an arm for each row of the table (specs/Commands); refusals 8, 7 and 6 are given where they arise.
+// The command by its number, an arm for each row of the table (specs/Commands); refusals 8, 7, 12 and 6 are given where they arise.
 pub(crate) fn late_effect(c: Command, a: Row, b: Row, p: StoredRow) -> Effect
     ensures { λ r. ⌜ effectBy r ≡ lateEffect c (sourcesOf c (readOf a b p)) ⌝ }
 {
