@@ -1,5 +1,5 @@
--- The root: Newton's steps, the rounded root, what it means, whether it is exact, its error and its order.
-pub mod NewtonLaws
+-- The root: its digits, the rounded root, what it means, whether it is exact, its error and its order.
+pub mod DigitLaws
 pub mod RootLaws
 pub mod RootPartsLaws
 pub mod RootCases

@@ -1,7 +1,6 @@
 -- What the functions of the root promise each other.
 use mathlib.Core.Path.{_≡_}
 use Prim.Native.Nat.{ℕ, _+_, _-_, _*_, _%_, _^_, _≤_, _<_}
-use Rattle.laws.specs.WholeRoot.{WholeRoot}
 
 -- a significand above zero and its exponent
 pub record Positive (q k : ℕ) : Type 0 where
@@ -23,10 +22,3 @@ pub record NearRoot (n r : ℕ) : Type 0 where
   pub below : 4 * n < (2 * r + 1) * (2 * r + 1)
   pub least : 2 ^ 23 ≤ r
   pub most : r ≤ 2 ^ 24
-
--- x is the whole root of n, or above it by at most c
-pub record AboveRoot (n c x : ℕ) : Type 0 where
-  pub root : ℕ
-  pub is : WholeRoot n root
-  pub least : root ≤ x
-  pub most : x ≤ root + c

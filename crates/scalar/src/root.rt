@@ -1,15 +1,15 @@
-// The rounded root, by a first root from a table, two steps of Newton's and one comparison of whole squares; and whether it is exact.
+// The rounded root, by a whole root that is worked out digit by digit and one comparison of whole squares; and whether it is exact.
 ghost use mathlib.Core.Path.{_≡_};
 ghost use Prim.Native.Nat.{_+_, _*_, _/_, _^_, _≤_, _<_};
 ghost use lib.Ieee as Ieee;
 ghost use Rattle.scalar.specs.Root as Root;
 ghost use Rattle.scalar.specs.ExactRoot as ExactRoot;
+ghost use Rattle.laws.specs.WholeRoot as Whole;
 ghost use Rattle.laws.specs.WholeRoot.{WholeRoot};
-ghost use Rattle.scalar.specs.RootParts.{Positive, Shift, NearRoot, AboveRoot};
+ghost use Rattle.scalar.specs.RootParts.{Positive, Shift, NearRoot};
 use crate::bits::Parts;
 use crate::bits::decode;
 use crate::bits::pack;
-use roots::first_roots::first_root;
 
 // The rounded root. Most arguments are positive and normal, and are told by their bits.
 pub fn sqrt(x: f32) -> f32
@@ -119,31 +119,40 @@ fn nearest_root(n: u64) -> u32
     r as u32 // it is below r + 1/2 (RootPartsLaws.near-stays)
 }
 
-// The whole root R of a radicand of 47 or 48 bits.
+// The whole root of a radicand of 47 or 48 bits, a digit of base 4 at a time, the highest first: twelve rounds.
 fn whole_root(n: u64) -> u64
     requires { ⌜ (2 ^ 46 ≤ n) × (n < 2 ^ 48) ⌝ }
     ensures { λ r. ⌜ WholeRoot n r ⌝ }
 {
-    let near = near_root(n); // R ≤ near ≤ R + 399 (NewtonLaws.first-step)
-    let next = newton(n, near); // R ≤ next ≤ R + 1 (NewtonLaws.second-step)
-    if next * next > n { next - 1 } else { next } // R (NewtonLaws.last-below, NewtonLaws.last-is)
+    let mut s: u64 = 0;
+    let mut k: u32 = 48; // s is the whole root of n >> k
+    while 0 < k {
+        k -= 4;
+        s = with_digit(n >> k, s);
+    }
+    s
 }
 
-// One step of Newton's for the root of n, in whole numbers.
-fn newton(n: u64, x: u64) -> u64
-    requires { ⌜ (0 < x) × (x + n < 2 ^ 64) ⌝ }
-    ensures { λ r. ⌜ r ≡ (x + n / x) / 2 ⌝ }
+// The whole root of m, s being that of m / 16: s with a digit more. The digit's second bit is told for either value of its first, so that no
+// square waits for another, and each `if` is a conditional move.
+fn with_digit(m: u64, s: u64) -> u64
+    requires { ⌜ (m < 2 ^ 48) × WholeRoot (m / 16) s ⌝ }
+    ensures { λ r. ⌜ WholeRoot m r ⌝ }
 {
-    (x + n / x) / 2
+    let high = 4 * s + 2;
+    let with_zero = grown(4 * s, m);
+    let with_one = grown(high, m);
+    if high * high <= m {
+        with_one
+    } else {
+        with_zero
+    }
 }
 
-// One step of Newton's from the start 16384 d, which is 65536 r + 81920 for the table's root r. The step's quotient is worked out in 32 bits
-// as 4 q, which is short by less than 4; the last 2 makes that good.
-fn near_root(n: u64) -> u64
-    requires { ⌜ (2 ^ 46 ≤ n) × (n < 2 ^ 48) ⌝ }
-    ensures { λ r. ⌜ AboveRoot n 399 r ⌝ }
+// r, or the next number if its square is at most m.
+fn grown(r: u64, m: u64) -> u64
+    requires { ⌜ r < 2 ^ 25 ⌝ }
+    ensures { λ s. ⌜ s ≡ Whole.grown r m ⌝ }
 {
-    let d = 4 * (first_root((n >> 38) as usize) as u32) + 5; // R ≤ 16384 d ≤ R + 81920 (NewtonLaws.start)
-    let q = (n >> 16) as u32 / d; // q * 65536 d ≤ n < (q + 1) * 65536 d (in NewtonLaws.first-step)
-    8192 * (d as u64) + 2 * (q as u64) + 2 // R to R + 399 (NewtonLaws.first-step)
+    if (r + 1) * (r + 1) <= m { r + 1 } else { r }
 }

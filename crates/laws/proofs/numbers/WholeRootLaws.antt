@@ -58,7 +58,7 @@ bit-one n r w h = record { below = h; above = omega (arith, w .above, even-squar
 pub bit-zero : (n r : ℕ) → WholeRoot (n / 4) r → n < (2 * r + 1) * (2 * r + 1) → WholeRoot n (2 * r)
 bit-zero n r w h = record { below = omega (arith, w .below, even-square r); above = h }
 
-grown-is : (n r : ℕ) → WholeRoot (n / 4) r → WholeRoot n (grown (2 * r) n)
+pub grown-is : (n r : ℕ) → WholeRoot (n / 4) r → WholeRoot n (grown (2 * r) n)
 grown-is n r w = go (leb ((2 * r + 1) * (2 * r + 1)) n) (leb→le ((2 * r + 1) * (2 * r + 1)) n) (nleb→lt ((2 * r + 1) * (2 * r + 1)) n)
   where
     go : (b : Bool) → (T b → (2 * r + 1) * (2 * r + 1) ≤ n) → (T (not b) → n < (2 * r + 1) * (2 * r + 1)) → WholeRoot n (cond b (2 * r + 1) (2 * r))

@@ -1,35 +1,60 @@
 -- `scalar::root::whole_root` meets its contract. Assumes nothing.
+use mathlib.Core.Path.{_≡_}
+use Prim.Native.Nat.{_/_, _%_, _^_, _≤_}
+use native.Mathlib.Nat.{lt-of-le-of-lt, div-le-self}
 use native.Mathlib.Omega.{arith}
 use borrow.Author.Needs.{needs}
-use Rattle.scalar.specs.RootParts.{AboveRoot}
-use Rattle.scalar.proofs.roots.NewtonLaws.{second-step, above-most, above-least, square-fits, last-below, last-is}
+use Rattle.laws.specs.WholeRoot.{WholeRoot}
+use Rattle.scalar.proofs.roots.DigitLaws.{no-bits, four-bits, all-bits}
 use Rattle.scalar.proofs.root.whole_root.Statement.{statement}
 use Rattle.scalar.proofs.root.whole_root.Tie as tie
 
-next : (c : tie.After-newton) → AboveRoot (c .before .before .args .n) 1 (c .newton .result)
-next c =
-    let a = c .before .near-root in
-    second-step (c .before .before .args .n) (a .result) (c .newton .result) (c .before .before .pre .0) (a .ensures) (c .newton .ensures)
+abbrev Inv-loop : tie.InvT-loop
+Inv-loop n s₀ k₀ s k = (k ≤ 48) × (k % 4 ≡ 0) × WholeRoot (n / 2 ^ k) s
 
-newton-requires : tie.Need-newton-requires
-newton-requires c κs =
-    let n = c .before .args .n in
-    let h = above-most n 399 (c .near-root .result) (c .before .pre .1) (c .near-root .ensures) in
-    let l = above-least n 399 (c .near-root .result) (c .before .pre .0) (c .near-root .ensures) in
-    (omega arith, omega arith)
+abbrev μ-loop : tie.MeasureT-loop
+μ-loop n s₀ k₀ s k = k
 
-mul-if1 : tie.Need-mul-if1
-mul-if1 c = record { fits = square-fits (c .before .before .args .n) (c .newton .result) (c .before .before .pre .1) (next c) }
+loop-holds : tie.Need-loop-holds Inv-loop μ-loop
+loop-holds c = (search needs, search needs, no-bits (c .args .n) (c .pre .1))
 
-sub-result : tie.Need-sub-result
-sub-result c = let l = above-least (c .before .before .before .args .n) 1 (c .before .newton .result) (c .before .before .before .pre .0) (next (c .before)) in omega arith
+sub-k : tie.Need-sub-k Inv-loop μ-loop
+sub-k c = omega (arith, c .before .loop .inv .1, c .loop-test .taken)
 
-returns : tie.Need-returns
-returns c = last-below (c .before .before .before .args .n) (c .before .newton .result) (c .if1 .taken) (next (c .before))
+cast-with-digit : tie.Need-cast-with-digit Inv-loop μ-loop
+cast-with-digit c = search needs
 
-returns-2 : tie.Need-returns-2
-returns-2 c = last-is (c .before .before .before .args .n) (c .before .newton .result) (c .if1 .left) (next (c .before))
+shr-with-digit : tie.Need-shr-with-digit Inv-loop μ-loop
+shr-with-digit c = search needs
+
+with-digit-requires : tie.Need-with-digit-requires Inv-loop μ-loop
+with-digit-requires c κs =
+    let start = c .before .before in
+    let l = c .before .loop in
+    (lt-of-le-of-lt (div-le-self _ _) (start .pre .1), four-bits (start .args .n) (l .s) (l .k) (omega (arith, l .inv .1, c .loop-test .taken)) (l .inv .2))
+
+loop-less : tie.Need-loop-less Inv-loop μ-loop
+loop-less c = search needs
+
+loop-again : tie.Need-loop-again Inv-loop μ-loop
+loop-again c =
+    let k = c .before .before .loop in
+    (omega (arith, k .inv .0), omega (arith, k .inv .1, c .before .loop-test .taken), c .with-digit .ensures)
+
+returns : tie.Need-returns Inv-loop μ-loop
+returns c = all-bits (c .before .before .args .n) (c .before .loop .s) (c .before .loop .k) (c .loop-test .left) (c .before .loop .inv .2)
 
 pub whole-root-spec : {M : Type 1} → statement M
 whole-root-spec =
-    tie.close (tie.spec (λ c κs. search needs) newton-requires mul-if1 sub-result returns returns-2)
+    tie.close
+    (tie.spec
+    Inv-loop
+    μ-loop
+    loop-holds
+    sub-k
+    cast-with-digit
+    shr-with-digit
+    with-digit-requires
+    loop-less
+    loop-again
+    returns)
