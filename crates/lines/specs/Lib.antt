@@ -3,6 +3,7 @@ pub mod Field
 pub mod FieldMeaning
 pub mod Columns
 pub mod ColumnParts
+pub mod PackedDigits
 pub mod CommandLine
 pub mod AnswerLine
 pub mod LineMeaning

@@ -1,9 +1,10 @@
 // One field: its digits after the blanks, the number that they give, and a number written.
 ghost use mathlib.Core.Path.{_≡_};
 ghost use Prim.Native.Nat.{_+_, _/_, _%_, _≤_, _<_};
-ghost use lib.ListN.{length, set};
+ghost use lib.ListN.{length};
 ghost use Rattle.lines.specs.Field as Field;
 ghost use Rattle.lines.specs.ColumnParts as ColumnParts;
+use crate::ten_digits::put_ten;
 use std::num::wrapping_sub_u64;
 
 // The number that a field's digits give, or the word that they are ill formed.
@@ -150,26 +151,4 @@ fn glyph(rest: u32) -> u8
     } else {
         b'0' + (rest % 10) as u8
     }
-}
-
-// Writes a number of ten digits after a blank, two digits from each division. No division waits for another, as those of a loop do.
-fn put_ten(field: &mut [u8], n: u32)
-    requires { ⌜ (length (now field) ≡ 11) × (1000000000 ≤ n) ⌝ }
-    ensures { λ _. ⌜ now (field .exit) ≡ Field.written 11 n ⌝ }
-{
-    put_pair(field, 9, n % 100);
-    put_pair(field, 7, n / 100 % 100);
-    put_pair(field, 5, n / 10000 % 100);
-    put_pair(field, 3, n / 1000000 % 100);
-    put_pair(field, 1, n / 100000000);
-    field[0] = b' ';
-}
-
-// Writes the two digits of a number below 100.
-fn put_pair(field: &mut [u8], at: usize, p: u32)
-    requires { ⌜ (at + 2 ≤ length (now field)) × (p < 100) ⌝ }
-    ensures { λ _. ⌜ now (field .exit) ≡ set (set (now (field .entry)) (at + 1) (48 + p % 10)) at (48 + p / 10) ⌝ }
-{
-    field[at + 1] = b'0' + (p % 10) as u8;
-    field[at] = b'0' + (p / 10) as u8;
 }

@@ -3,3 +3,4 @@ pub mod answer_line;
 pub mod command_line;
 pub mod field;
 mod narrow;
+mod ten_digits;

@@ -1,0 +1,21 @@
+-- `lines::ten_digits::tens_of` meets its contract. Assumes nothing.
+use Rattle.lines.proofs.numerals.PackedDigitLaws.{tens-are}
+use borrow.Author.Needs.{needs}
+use Rattle.lines.proofs.ten_digits.tens_of.Statement.{statement}
+use Rattle.lines.proofs.ten_digits.tens_of.Tie as tie
+
+returns : tie.Need-returns
+returns c = tens-are (c .args .x)
+
+pub tens-of-spec : {M : Type 1} → statement M
+tens-of-spec =
+    tie.close
+    (tie.spec
+    (λ c. search needs)
+    (λ c. search needs)
+    (λ c. search needs)
+    (λ c. search needs)
+    (λ c. search needs)
+    (λ c. search needs)
+    (λ c. search needs)
+    returns)
