@@ -12,7 +12,7 @@ use Rattle.lines.proofs.numerals.WriteLaws.{Spelt, spelt-more, spelt-al
 use Rattle.lines.proofs.numerals.NumeralLaws.{glyph-digit, written-lead}
 
 -- the digits of p from column i on
-abbrev pub pair : List ℕ → ℕ → ℕ → List ℕ
+abbrev pair : List ℕ → ℕ → ℕ → List ℕ
 pair f i p = set (set f (i + 1) (48 + p % 10)) i (48 + p / 10)
 
 -- nothing is written yet
@@ -34,7 +34,7 @@ spelt-pair w n f i rest h g =
     rw (one, ten) t
 
 -- the five pairs and the blank
-pub ten-written : (f : List ℕ) (n : ℕ) → length f ≡ 11 → 1000000000 ≤ n → n < 4294967296
+ten-written : (f : List ℕ) (n : ℕ) → length f ≡ 11 → 1000000000 ≤ n → n < 4294967296
     → set (pair (pair (pair (pair (pair f 9 (n % 100)) 7 (n / 100 % 100)) 5 (n / 10000 % 100)) 3 (n / 1000000 % 100)) 1 (n / 100000000)) 0 (glyph 0) ≡ written 11 n
 ten-written f n e g u =
     let b : n / 100 / 100 ≡ n / 10000 = omega arith in
@@ -52,7 +52,7 @@ ten-written f n e g u =
 -- ---- from bytes side by side
 
 -- the two lowest bytes of x from column i on
-abbrev pub bytes : List ℕ → ℕ → ℕ → List ℕ
+abbrev bytes : List ℕ → ℕ → ℕ → List ℕ
 bytes f i x = set (set f (i + 1) (x / 256 % 256)) i (x % 256)
 
 -- nothing is above x

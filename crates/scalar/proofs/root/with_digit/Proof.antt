@@ -1,6 +1,6 @@
 -- `scalar::root::with_digit` meets its contract. Assumes nothing.
 use mathlib.Core.Path.{sym, subst}
-use Prim.Native.Nat.{_+_, _*_, _^_, _<_}
+use Prim.Native.Nat.{_^_, _<_}
 use native.Mathlib.Omega.{arith}
 use Rattle.laws.specs.WholeRoot.{WholeRoot}
 use Rattle.scalar.proofs.roots.DigitLaws.{first-one, first-zero, root-few, square-fits}
@@ -26,7 +26,7 @@ grown-requires-2 : tie.Need-grown-requires-2
 grown-requires-2 c κs = omega (arith, few (c .before))
 
 mul-if1 : tie.Need-mul-if1
-mul-if1 c = record { fits = square-fits (4 * c .before .before .args .s + 2) (omega (arith, few (c .before .before))) }
+mul-if1 c = record { fits = square-fits _ (omega (arith, few (c .before .before))) }
 
 returns : tie.Need-returns
 returns c =
