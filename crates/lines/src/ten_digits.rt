@@ -28,7 +28,7 @@ fn put_two(field: &mut [u8], at: usize, bytes: u64)
     field[at] = (bytes % 256) as u8;
 }
 
-// The digits of a number below 100 as bytes.
+// The digits of a number below 100 as bytes, of which 0x30 is the digit 0.
 fn two_digits(p: u64) -> u64
     requires { ⌜ p < 100 ⌝ }
     ensures { λ r. ⌜ r ≡ twoDigits p ⌝ }
@@ -49,7 +49,8 @@ fn eight_digits(n: u64) -> u64
     256 * (twos - 10 * tens) + tens + 0x3030_3030_3030_3030 // PackedDigitLaws.digits-are
 }
 
-// Both halves of a number, below 10000, divided by 100. What a product brings into the lower half's place from the upper one is taken off.
+// Both halves of a number, below 10000, divided by 100: 10486 / 2 ^ 20 is just above a hundredth. What the quotient has in the lower half from the upper one
+// is a multiple of 128 (PackedDigitLaws.hundreds-are).
 fn hundreds_of(x: u64) -> u64
     requires { ⌜ x < 10000 * 2 ^ 32 ⌝ }
     ensures { λ r. ⌜ Hundreds x r ⌝ }
@@ -58,7 +59,8 @@ fn hundreds_of(x: u64) -> u64
     q % 128 + q / 0x1_0000_0000 % 128 * 0x1_0000_0000
 }
 
-// All quarters of a number, below 100, divided by 10.
+// All quarters of a number, below 100, divided by 10: 103 / 2 ^ 10 is just above a tenth. What the quotient has in a quarter from those above it is a
+// multiple of 16 (PackedDigitLaws.tens-are).
 fn tens_of(x: u64) -> u64
     requires { ⌜ x < 100 * 2 ^ 48 ⌝ }
     ensures { λ r. ⌜ Tens x r ⌝ }

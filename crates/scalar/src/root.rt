@@ -125,16 +125,16 @@ fn whole_root(n: u64) -> u64
     ensures { λ r. ⌜ WholeRoot n r ⌝ }
 {
     let mut s: u64 = 0;
-    let mut k: u32 = 48; // s is the whole root of n >> k
+    let mut k: u32 = 48; // s is the whole root of n >> k (DigitLaws.no-bits)
     while 0 < k {
         k -= 4;
-        s = with_digit(n >> k, s);
+        s = with_digit(n >> k, s); // n >> k has four bits more than before (DigitLaws.four-bits)
     }
-    s
+    s // DigitLaws.all-bits
 }
 
-// The whole root of m, s being that of m / 16: s with a digit more. The digit's second bit is told for either value of its first, so that no
-// square waits for another, and each `if` is a conditional move.
+// The whole root of m, s being that of m / 16: s with a digit more. The digit's second bit is found for either value of its first, so that no
+// square waits for another, and each `if` can be a conditional move.
 fn with_digit(m: u64, s: u64) -> u64
     requires { ⌜ (m < 2 ^ 48) × WholeRoot (m / 16) s ⌝ }
     ensures { λ r. ⌜ WholeRoot m r ⌝ }
@@ -143,9 +143,9 @@ fn with_digit(m: u64, s: u64) -> u64
     let with_zero = grown(4 * s, m);
     let with_one = grown(high, m);
     if high * high <= m {
-        with_one
+        with_one // DigitLaws.first-one
     } else {
-        with_zero
+        with_zero // DigitLaws.first-zero
     }
 }
 

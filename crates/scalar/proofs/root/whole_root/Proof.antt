@@ -1,4 +1,4 @@
--- `scalar::root::whole_root` meets its contract. Assumes nothing.
+-- `scalar::root::whole_root` meets its contract. Invariant: s is the whole root of n / 2 ^ k, and 4 divides k; measure: k, the bits of n that are left. Assumes nothing.
 use mathlib.Core.Path.{_≡_}
 use Prim.Native.Nat.{_/_, _%_, _^_, _≤_}
 use native.Mathlib.Nat.{lt-of-le-of-lt, div-le-self}
