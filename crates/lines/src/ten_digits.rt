@@ -56,7 +56,7 @@ fn hundreds_of(x: u64) -> u64
     ensures { λ r. ⌜ Hundreds x r ⌝ }
 {
     let q = x * 10486 / 0x10_0000;
-    q % 128 + q / 0x1_0000_0000 % 128 * 0x1_0000_0000
+    q % 128 + q / 0x1_0000_0000 * 0x1_0000_0000
 }
 
 // All quarters of a number, below 100, divided by 10: 103 / 2 ^ 10 is just above a tenth. What the quotient has in a quarter from those above it is a
@@ -69,5 +69,5 @@ fn tens_of(x: u64) -> u64
     q % 16
         + q / 0x1_0000 % 16 * 0x1_0000
         + q / 0x1_0000_0000 % 16 * 0x1_0000_0000
-        + q / 0x1_0000_0000_0000 % 16 * 0x1_0000_0000_0000
+        + q / 0x1_0000_0000_0000 * 0x1_0000_0000_0000
 }

@@ -46,7 +46,7 @@ pub odd-square : (r : ℕ) → (2 * r + 1) * (2 * r + 1) ≡ 4 * (r * r) + 4 * r
 odd-square r = ring (r ∷ []) ((lit 2 ⊗ var 0 ⊕ lit 1) ⊗ (lit 2 ⊗ var 0 ⊕ lit 1)) (lit 4 ⊗ (var 0 ⊗ var 0) ⊕ lit 4 ⊗ var 0 ⊕ lit 1) refl
 
 -- ---- one more bit of the root
-even-square : (r : ℕ) → 2 * r * (2 * r) ≡ 4 * (r * r)
+pub even-square : (r : ℕ) → 2 * r * (2 * r) ≡ 4 * (r * r)
 even-square r = ring (r ∷ []) (lit 2 ⊗ var 0 ⊗ (lit 2 ⊗ var 0)) (lit 4 ⊗ (var 0 ⊗ var 0)) refl
 
 pub bit-one : (n r : ℕ) → WholeRoot (n / 4) r → (2 * r + 1) * (2 * r + 1) ≤ n → WholeRoot n (2 * r + 1)

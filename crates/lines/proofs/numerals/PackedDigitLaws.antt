@@ -24,45 +24,39 @@ module _ (m s k u : ℕ) (p : 0 < s) (w : 0 < k * u) (a b q : ℕ) (e : a * m / 
       ∙ (sym (div-div-eq-div-mul (q + k * u * (b * m)) (k * u) s)
       ∙ ap (λ (x : ℕ). x / s) (add-mul-div-left q (b * m) w ∙ (ap (λ (x : ℕ). x + b * m) (div-eq-of-lt h) ∙ zero-add (b * m)))))
 
--- ---- halves by 100: 10486 / 2 ^ 20 is just above a hundredth
-pub hundreds-are : (x : ℕ) → Hundreds x (x * 10486 / 1048576 % 128 + x * 10486 / 1048576 / 4294967296 % 128 * 4294967296)
-hundreds-are x a b p q e =
-    let low : (a + 4294967296 * b) * 10486 / 1048576 % 128 ≡ a / 100 = lowest 10486 1048576 128 32 (omega arith) (omega arith) a b (a / 100) (hundredth a p) (omega arith) in
-    let high : (a + 4294967296 * b) * 10486 / 1048576 / 4294967296 ≡ b * 10486 / 1048576 = above 10486 1048576 128 32 (omega arith) (omega arith) a b (a / 100) (hundredth a p) (omega arith) (omega arith) in
-    let small : b / 100 % 128 ≡ b / 100 = mod-eq-of-lt (omega arith) in
-    rw (e, low, high, hundredth b q, small) (omega arith)
-  where
-    hundredth : (a : ℕ) → a < 10000 → a * 10486 / 1048576 ≡ a / 100
-    hundredth a h = omega arith
+-- ---- halves by 100, where m / 2 ^ 20 serves for a hundredth of each
+pub hundreds-are : (m x : ℕ) → ((a : ℕ) → a < 10000 → a * m / 1048576 ≡ a / 100)
+    → Hundreds x (x * m / 1048576 % 128 + x * m / 1048576 / 4294967296 * 4294967296)
+hundreds-are m x hundredth a b p q e =
+    let low : (a + 4294967296 * b) * m / 1048576 % 128 ≡ a / 100 = lowest m 1048576 128 32 (omega arith) (omega arith) a b (a / 100) (hundredth a p) (omega arith) in
+    let high : (a + 4294967296 * b) * m / 1048576 / 4294967296 ≡ b * m / 1048576 = above m 1048576 128 32 (omega arith) (omega arith) a b (a / 100) (hundredth a p) (omega arith) (omega arith) in
+    rw (e, low, high, hundredth b q) (omega arith)
 
--- ---- quarters by 10: 103 / 2 ^ 10 is just above a tenth
-tenth : (a : ℕ) → a < 100 → a * 103 / 1024 ≡ a / 10
-tenth a h = omega arith
+-- ---- quarters by 10, where m / 2 ^ 10 serves for a tenth of each
+module _ (m : ℕ) (tenth : (a : ℕ) → a < 100 → a * m / 1024 ≡ a / 10) where
+  quarter-low : (a b : ℕ) → a < 100 → (a + 65536 * b) * m / 1024 % 16 ≡ a / 10
+  quarter-low a b h = lowest m 1024 16 4 (omega arith) (omega arith) a b (a / 10) (tenth a h) (omega arith)
 
-quarter-low : (a b : ℕ) → a < 100 → (a + 65536 * b) * 103 / 1024 % 16 ≡ a / 10
-quarter-low a b h = lowest 103 1024 16 4 (omega arith) (omega arith) a b (a / 10) (tenth a h) (omega arith)
+  quarter-high : (a b : ℕ) → a < 100 → (a + 65536 * b) * m / 1024 / 65536 ≡ b * m / 1024
+  quarter-high a b h = above m 1024 16 4 (omega arith) (omega arith) a b (a / 10) (tenth a h) (omega arith) (omega arith)
 
-quarter-high : (a b : ℕ) → a < 100 → (a + 65536 * b) * 103 / 1024 / 65536 ≡ b * 103 / 1024
-quarter-high a b h = above 103 1024 16 4 (omega arith) (omega arith) a b (a / 10) (tenth a h) (omega arith) (omega arith)
-
-pub tens-are : (x : ℕ) → Tens x (x * 103 / 1024 % 16 + x * 103 / 1024 / 65536 % 16 * 65536 + x * 103 / 1024 / 4294967296 % 16 * 4294967296 + x * 103 / 1024 / 281474976710656 % 16 * 281474976710656)
-tens-are x a b c d p q r s e =
-    let small : d / 10 % 16 ≡ d / 10 = mod-eq-of-lt (omega arith) in
-    let y = (a + 65536 * (b + 65536 * (c + 65536 * d))) * 103 / 1024 in
+pub tens-are : (m x : ℕ) → ((a : ℕ) → a < 100 → a * m / 1024 ≡ a / 10)
+    → Tens x (x * m / 1024 % 16 + x * m / 1024 / 65536 % 16 * 65536 + x * m / 1024 / 4294967296 % 16 * 4294967296 + x * m / 1024 / 281474976710656 * 281474976710656)
+tens-are m x tenth a b c d p q r s e =
+    let y = (a + 65536 * (b + 65536 * (c + 65536 * d))) * m / 1024 in
     let third : y / 4294967296 ≡ y / 65536 / 65536 = sym (div-div-eq-div-mul y 65536 65536) in
     let fourth : y / 281474976710656 ≡ y / 65536 / 65536 / 65536 = sym (div-div-eq-div-mul y 4294967296 65536) ∙ ap (λ (z : ℕ). z / 65536) third in
     rw (
       e,
       third,
       fourth,
-      quarter-low a (b + 65536 * (c + 65536 * d)) p,
-      quarter-high a (b + 65536 * (c + 65536 * d)) p,
-      quarter-low b (c + 65536 * d) q,
-      quarter-high b (c + 65536 * d) q,
-      quarter-low c d r,
-      quarter-high c d r,
+      quarter-low m tenth a (b + 65536 * (c + 65536 * d)) p,
+      quarter-high m tenth a (b + 65536 * (c + 65536 * d)) p,
+      quarter-low m tenth b (c + 65536 * d) q,
+      quarter-high m tenth b (c + 65536 * d) q,
+      quarter-low m tenth c d r,
+      quarter-high m tenth c d r,
       tenth d s,
-      small,
     )
     (omega arith)
 

@@ -1,31 +1,28 @@
 -- The whole root of a number with four bits more: a digit of base 4 more. Assumes nothing.
-use mathlib.Core.Path.{_≡_, refl, sym, ap, _∙_, subst}
+use mathlib.Core.Path.{_≡_, sym, ap, _∙_, subst}
 use mathlib.Core.Bool.{Bool, cond}
-use mathlib.Core.List.{[], _∷_}
 use Prim.Native.Nat.{ℕ, zero, suc, _+_, _-_, _*_, _/_, _^_, _≤_, _<_}
 use native.Mathlib.Nat.{lt-of-le-of-lt, mul-le-mul, div-div-eq-div-mul, div-eq-of-lt}
 use native.Mathlib.Omega.{arith}
 use borrow.Author.Tests.{le-leb, lt-leb}
 use lib.Dec.{lit<}
 use lib.Pow.{pow-add}
-use Rattle.laws.proofs.solvers.Ring.{var, lit, _⊕_, _⊗_}
-use Rattle.laws.proofs.solvers.RingNat.{ring}
 use Rattle.laws.specs.WholeRoot.{WholeRoot, grown}
-use Rattle.laws.proofs.numbers.WholeRootLaws.{bit-one, bit-zero, grown-is, root-lt}
+use Rattle.laws.proofs.numbers.WholeRootLaws.{even-square, bit-one, bit-zero, grown-is, root-lt}
 
 -- ---- a digit, of which the first bit is told
 module _ (m s : ℕ) (w : WholeRoot (m / 16) s) where
   before : WholeRoot (m / 4 / 4) s
   before = subst (λ (x : ℕ). WholeRoot x s) (sym (div-div-eq-div-mul m 4 4)) w
 
+  twice : 2 * (2 * s + 1) ≡ 4 * s + 2
+  twice = omega arith
+
   halves : (4 * s + 2) * (4 * s + 2) ≡ 4 * ((2 * s + 1) * (2 * s + 1))
-  halves = ring (s ∷ []) ((lit 4 ⊗ var 0 ⊕ lit 2) ⊗ (lit 4 ⊗ var 0 ⊕ lit 2)) (lit 4 ⊗ ((lit 2 ⊗ var 0 ⊕ lit 1) ⊗ (lit 2 ⊗ var 0 ⊕ lit 1))) refl
+  halves = subst (λ (r : ℕ). r * r ≡ 4 * ((2 * s + 1) * (2 * s + 1))) twice (even-square (2 * s + 1))
 
   pub first-one : (4 * s + 2) * (4 * s + 2) ≤ m → WholeRoot m (grown (4 * s + 2) m)
-  first-one h = subst (λ (r : ℕ). WholeRoot m (grown r m)) same (grown-is m (2 * s + 1) (bit-one (m / 4) s before (omega (arith, halves))))
-    where
-      same : 2 * (2 * s + 1) ≡ 4 * s + 2
-      same = omega arith
+  first-one h = subst (λ (r : ℕ). WholeRoot m (grown r m)) twice (grown-is m (2 * s + 1) (bit-one (m / 4) s before (omega (arith, halves))))
 
   pub first-zero : m < (4 * s + 2) * (4 * s + 2) → WholeRoot m (grown (4 * s) m)
   first-zero h = subst (λ (r : ℕ). WholeRoot m (grown r m)) same (grown-is m (2 * s) (bit-zero (m / 4) s before (omega (arith, halves))))
