@@ -3,6 +3,7 @@
 use crate::decimal;
 use crate::f32::math;
 use crate::roots::is_exact;
+use crate::sheet::directions::scaled;
 use crate::{BVec3, Vec3, Vec4};
 use std::error::Error;
 
@@ -10,7 +11,7 @@ use std::error::Error;
 pub const NAN: u32 = 2143289344;
 
 /// Numbers of functions are below this.
-const NUMBERS: usize = 122;
+const NUMBERS: usize = 123;
 
 /// The most numbers that a function's arguments and its results have.
 pub const MOST_ARGUMENTS: usize = 9;
@@ -351,4 +352,5 @@ table! {
     119 "X" () -> Vec3 = Vec3::X;
     120 "length_and_exactness" (a: Vec3) -> (f32, bool) = and_exactness(a.length(), a.length_squared());
     121 "distance_and_exactness" (a: Vec3, b: Vec3) -> (f32, bool) = and_exactness(a.distance(b), a.distance_squared(b));
+    122 "scaled" (a: Vec3) -> Vec3 = scaled(a);
 }

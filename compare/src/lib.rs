@@ -38,6 +38,7 @@ use f32::vec3::Vec3;
 use f32::vec4::Vec4;
 use standins::{swizzles, BVec3A, BVec4, FloatExt, Quat, Vec2, Vec3A};
 
+pub mod arrows;
 pub mod calls;
 pub mod cases;
 pub mod check;
@@ -51,6 +52,7 @@ pub mod oracle;
 pub mod outcomes;
 pub mod pairs;
 pub mod roots;
+pub mod scales;
 pub mod sheet;
 pub mod sitting;
 pub mod squares;

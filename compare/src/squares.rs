@@ -116,7 +116,7 @@ fn scale(d: &mut Draw) -> f64 {
 }
 
 /// The number itself, or the one next below or above it in size.
-fn beside(d: &mut Draw, bits: u32) -> u32 {
+pub fn beside(d: &mut Draw, bits: u32) -> u32 {
     let size = bits & !SIGN;
     (bits & SIGN) | d.one_of(&[size, size, size.saturating_sub(1), size + 1])
 }

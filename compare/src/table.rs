@@ -38,6 +38,7 @@ impl fmt::Display for Tally {
             self.length.steps()
         )?;
         writeln!(f, "exact dot product of 24's directions: at most {:.4} times 2^-24 (256 allowed)", self.dot.steps())?;
+        write!(f, "{}", self.scales)?;
         writeln!(f, "numbers not finite in rows written or brought back: {}", self.not_finite)?;
         if cfg!(feature = "glam-assert") {
             writeln!(f, "broken assertions of the Rust: {}", self.panics.len())?;

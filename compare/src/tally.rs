@@ -3,6 +3,7 @@
 use crate::check::Rust;
 use crate::exact::{dot, off_one, Size};
 use crate::outcomes::{can_have, outcome, ABOVE, MALFORMED, OUTCOMES};
+use crate::scales::Scales;
 use crate::sheet::lines::{read, write_answer};
 use crate::sheet::{changes, Answer, Command, Kind, Refusal, Row, Sheet, TAKE_BACK};
 
@@ -17,6 +18,8 @@ pub struct Tally {
     pub length: Size,
     /// The largest exact dot product of two of the directions that a 24 read and wrote.
     pub dot: Size,
+    /// How the vectors were scaled that 2 made directions of.
+    pub scales: Scales,
     /// Numbers that are not finite in rows that were written or brought back.
     pub not_finite: u64,
     /// The commands at which the Rust panicked: where its assertions are on, one of them was broken.
@@ -39,8 +42,8 @@ impl Rust for Tally {
 impl Default for Tally {
     fn default() -> Tally {
         let counts = [[0; OUTCOMES]; MALFORMED + 1];
-        let least = Size::default();
-        Tally { sheet: Sheet::fresh(), counts, length: least, dot: least, not_finite: 0, panics: Vec::new() }
+        let (least, scales) = (Size::default(), Scales::default());
+        Tally { sheet: Sheet::fresh(), counts, length: least, dot: least, scales, not_finite: 0, panics: Vec::new() }
     }
 }
 
@@ -72,6 +75,9 @@ impl Tally {
             let count = if matches!(command.number, 24 | TAKE_BACK) { 2 } else { 1 };
             self.look_at(answer.row, count);
         }
+        if answer.refusal == 0 && command.number == 2 {
+            self.scales.note(read.expect("a source is a row"));
+        }
         if answer.refusal == 0 && command.number == 24 {
             let [first, second] = [command.t, command.t + 1].map(|t| self.sheet.rows()[t as usize].numbers());
             let read = read.expect("a source is a row");
@@ -102,10 +108,11 @@ impl Tally {
         self.cells().filter(|&(row, outcome)| !can_have(row, outcome) && self.counts[row][outcome] != 0).collect()
     }
 
-    /// Whether all that demand 3 says of the rows held, and no assertion was broken.
+    /// Whether all that demand 3 says of the rows held, no assertion was broken, and enough vectors for 2 had every exponent.
     pub fn sound(&self) -> bool {
         let bounded = self.length <= Size::power(LENGTH_BOUND) && self.dot <= Size::power(DOT_BOUND);
-        bounded && self.not_finite == 0 && self.panics.is_empty() && self.impossible().is_empty()
+        let as_it_should_be = self.not_finite == 0 && self.panics.is_empty() && self.impossible().is_empty();
+        bounded && as_it_should_be && self.scales.sound()
     }
 
     fn cells(&self) -> impl Iterator<Item = (usize, usize)> {

@@ -114,6 +114,11 @@ pub fn along_axis(d: &mut Draw, size: f64) -> Vector {
     v
 }
 
+/// The bits of a power of two.
+pub fn power_of_two(exponent: i32) -> u32 {
+    (2f64.powi(exponent) as f32).to_bits()
+}
+
 /// A power of two, or its product with the root of two.
 pub fn power(d: &mut Draw) -> f64 {
     let exponent = if d.once_in(2) { d.one_of(&EXPONENTS) } else { d.between(-149, 127) };

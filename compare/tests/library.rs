@@ -2,7 +2,7 @@
 
 mod standin;
 
-use compare::library::{kept, lists, Account, Library};
+use compare::library::{arrows, kept, lists, Account, Library};
 use compare::sheet::{Kind, EXACT_ROOT, TAKE_BACK};
 use compare::tally::Tally;
 use standin::{fresh, respond, run, run_on, step, FORM, LENT, RIGHT, ROW, WORDS};
@@ -22,6 +22,13 @@ fn all_found(mistakes: &[(&str, Library)]) {
     for (mistake, library) in mistakes {
         assert!(compared(library).1 > 0, "{mistake} is not found");
     }
+}
+
+/// How many arrows were different, and how many largest exponents they had.
+fn compared_arrows(library: &Library) -> (u64, usize) {
+    let mut account = Account::default();
+    let scales = arrows::compare(library, &mut account, 1, 1000);
+    (account.different, scales.seen().0)
 }
 
 /// Writes a number to a place of the memory, if there is the place. Gives 0, to be added to a result.
@@ -159,4 +166,36 @@ fn mistakes_of_lists_are_found() {
         ("the part first, fresh", Library { run: |c, out| if c.len() % 7 != 0 { FORM } else { run(c, out) }, ..RIGHT }),
         ("a number behind", Library { run: |c, out| run(c, out) + put(out, c.len() / 7 * 6, 0), ..RIGHT }),
     ]);
+}
+
+#[test]
+fn mistakes_in_arrows_are_found() {
+    let (different, exponents) = compared_arrows(&RIGHT);
+    assert!(different == 0 && exponents > 200, "{different} different, {exponents} exponents");
+    let without_subnormal: Step = |w, &[n, t, a, b, x, y, z], out| {
+        let [x, y, z] = [x, y, z].map(|bits| if f32::from_bits(bits).is_subnormal() { bits & MINUS_ZERO } else { bits });
+        step(w, &[n, t, a, b, x, y, z], out)
+    };
+    let short_refused: Step = |w, n, out| {
+        let short = n[0] == 2 && w[n[2] as usize * ROW + 1..][..3].iter().all(|bits| bits & !MINUS_ZERO < 1 << 23);
+        step(w, &[if short { 99 } else { n[0] }, n[1], n[2], n[3], n[4], n[5], n[6]], out)
+    };
+    let not_written: Step = |w, n, out| if n[0] == 2 { step(&mut w.to_vec(), n, out) } else { step(w, n, out) };
+    let no_minus_zero: Step = |w, n, out| {
+        let refusal = step(w, n, out);
+        out.iter_mut().filter(|bits| **bits == MINUS_ZERO).for_each(|bits| *bits = 0);
+        refusal
+    };
+    for (mistake, step) in [
+        ("subnormal numbers that are 0", without_subnormal),
+        ("subnormal arrows refused", short_refused),
+        ("no row written by 2", not_written),
+        ("-0 that is 0", no_minus_zero),
+        ("no refusal", |w, n, out| match step(w, n, out) {
+            7 => 0,
+            refusal => refusal,
+        }),
+    ] {
+        assert!(compared_arrows(&Library { step, ..RIGHT }).0 > 0, "{mistake} is not found");
+    }
 }

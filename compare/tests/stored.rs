@@ -1,4 +1,4 @@
-//! The stored sitting of crates/bench: its answers are the plain sheet's, and it reaches every outcome of every command.
+//! The stored sitting of crates/bench: its answers are the plain sheet's, and it reaches every outcome of every command and of scaling.
 
 use compare::check::Rust;
 use compare::sheet::stream::Stream;
@@ -22,5 +22,5 @@ fn the_stored_sitting_reaches_every_outcome() {
     tally.answer_all(INPUT, &mut Vec::new());
     assert!(INPUT.starts_with(LISTING.as_bytes()));
     assert!(ANSWERS.len() / 43 >= 2000 && ANSWERS.len() % 43 == 0);
-    assert!(tally.missing().is_empty() && tally.sound(), "\n{tally}");
+    assert!(tally.missing().is_empty() && tally.scales.has_each_outcome() && tally.sound(), "\n{tally}");
 }

@@ -1,5 +1,6 @@
 //! Holds the functions of include/bench.h that run commands against the plain sheet: on fresh sheets, and on sheets that are kept.
 
+pub mod arrows;
 mod calls;
 pub mod kept;
 mod lent;

@@ -1,7 +1,9 @@
 //! Document 01's plain sheet, written from the document over the Rust's own functions: rows, commands, answers, one step. As document 02
-//! has it, the sheet takes steps back (request a), says which lengths and distances are exact roots (request c), and has planes (request d).
+//! has it, the sheet takes steps back (request a), says which lengths and distances are exact roots (request c), has planes (request d), and
+//! gives short and long arrows directions too (request f).
 
 mod answer;
+pub mod directions;
 mod fields;
 mod history;
 pub mod lines;

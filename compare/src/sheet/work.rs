@@ -1,5 +1,6 @@
 //! What each command of the plain sheet works out, with the refusals 8, 7, 12 and 6.
 
+use super::directions::direction_of;
 use super::planes::{meeting, offset, over};
 use super::{Kind, Refusal, Row};
 use crate::roots::is_exact;
@@ -23,9 +24,6 @@ pub enum Effect {
     /// Takes back the latest command that wrote a row.
     TakeBack,
 }
-
-/// 2^-126, the least `length_squared` of a vector that has a direction.
-const LEAST: f32 = f32::MIN_POSITIVE;
 
 /// The effect of a command on the rows a and b, the row that u names, and the values u, v, w.
 #[inline]
@@ -116,15 +114,6 @@ fn root(root: f32, x: f32) -> Result<Effect, Refusal> {
     } else {
         measure(root)
     }
-}
-
-/// "Direction of" a vector.
-fn direction_of(v: Vec3) -> Result<Vec3, Refusal> {
-    let square = v.length_squared();
-    if square < LEAST || !square.is_finite() {
-        return Err(Refusal::Direction);
-    }
-    v.try_normalize().ok_or(Refusal::Direction)
 }
 
 /// The point b of 11 and 12, if 1/(b·b) is finite.

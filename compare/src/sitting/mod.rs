@@ -1,5 +1,6 @@
 //! Sittings by a seed: command lines that build on rows of earlier ones, reach every outcome of every command, and malformed lines.
 
+mod arrows;
 mod back;
 mod choose;
 mod lists;
@@ -29,6 +30,9 @@ const WITHIN: u32 = 128;
 
 /// Once in so many times the points of a length or a distance are made for it.
 const MEASURED: u32 = 4;
+
+/// Once in so many times that command 2 is drawn, an arrow is made for it.
+const ARROWS: u32 = 2;
 
 /// Once in so many times that a command on planes is drawn, a plan of several commands comes in its place.
 const PLANES: u32 = 8;
@@ -138,12 +142,14 @@ impl Sitting {
         number + u32::from(number >= TAKE_BACK)
     }
 
-    /// Plans commands in place of one of a number, now and then: points that are made for a length or a distance, with the measure; planes.
+    /// Plans commands in place of one of a number, now and then: points that are made for a length or a distance, with the measure; arrows, with
+    /// their directions; planes.
     fn plan(&mut self, number: u32) {
         let mut plan = Plan::new(&mut self.draw);
         match (number, self.manner) {
             (26, _) if plan.d.once_in(MEASURED) => measured::length(&mut plan),
             (27, _) if plan.d.once_in(MEASURED) => measured::distance(&mut plan, self.sheet.rows()),
+            (2, Manner::Searching) if plan.d.once_in(ARROWS) => arrows::direction(&mut plan),
             (34..=37, Manner::Searching) if plan.d.once_in(PLANES) => planes::any(&mut plan),
             (34..=37, Manner::Ordinary) if plan.d.once_in(PLANES) => planes::parapet(&mut plan),
             _ => {}

@@ -9,9 +9,9 @@ use crate::values::{
 /// A used value that is not finite, where one is drawn, is drawn again, but for one in so many times.
 const KEPT: u32 = 8;
 
-/// Squares of lengths at which something changes: the least of a direction (2^-126, and a little more, where squares of its
-/// components vanish), the least whose reciprocal is finite
-/// (2^-128), the least that does not vanish (2^-149, and 2^-150 for one component), the least that overflows (2^128).
+/// Squares of lengths at which something changes: the least that is normal (2^-126, and a little more, where squares of the components
+/// vanish), the least whose reciprocal is finite (2^-128), the least that does not vanish (2^-149, and 2^-150 for one component), the least
+/// that overflows (2^128).
 const SQUARES: [i32; 8] = [-124, -125, -126, -127, -128, -149, -150, 128];
 
 /// Numbers so large that a sum or a difference of two overflows.

@@ -1,5 +1,5 @@
-//! The stored sitting: the named lines, then lines by a seed until every command has had every outcome that it can have, and short
-//! lines whose answers are longer than what is lent for them at once.
+//! The stored sitting: the named lines, then lines by a seed until every command has had every outcome that it can have and vectors have
+//! been scaled with every outcome, and short lines whose answers are longer than what is lent for them at once.
 
 use super::named::LISTING;
 use super::Sitting;
@@ -24,7 +24,8 @@ pub fn stored() -> Vec<u8> {
     sitting.named(&mut lines);
     let mut tally = Tally::default();
     let mut count = answered(&mut tally, &lines);
-    while count < LEAST || (!tally.missing().is_empty() && count < MOST) {
+    let all_reached = |tally: &Tally| tally.missing().is_empty() && tally.scales.has_each_outcome();
+    while count < LEAST || (!all_reached(&tally) && count < MOST) {
         let start = lines.len();
         sitting.line(&mut lines);
         count += answered(&mut tally, &lines[start..]);

@@ -9,5 +9,7 @@ pub mod CommandLaws
 pub mod claim
 pub mod ClaimLaws
 pub mod RootAnswerLaws
+pub mod NumberedLaws
 pub mod PlaneLaws
+pub mod DirectionLaws
 pub mod history

@@ -23,20 +23,11 @@ use Rattle.commands.specs.Refusals.{first, early, late, refusals, refusa
 use Rattle.commands.specs.Effects.{effectOf}
 use Rattle.commands.specs.Model.{applied, isSome, stepOf}
 use Rattle.commands.specs.Claim.{sourcesAt, refusalAt}
-use Rattle.commands.specs.PlaneCommands.{isOf, vectorAt, offsetAt, offset34, number35, point36, refusedBy, unlessFinite, above63, RefusedBy, PlaneCommands}
+use Rattle.commands.specs.CommandMeaning.{isOf, vectorAt, offsetAt, above63, refusedBy, RefusedBy}
+use Rattle.commands.specs.PlaneCommands.{offset34, number35, point36, unlessFinite, PlaneCommands}
 use Rattle.commands.proofs.ConditionLaws.{met}
 use Rattle.commands.proofs.CommandSetLaws.{allBelow, below}
-use Rattle.commands.proofs.claim.StepLaws.{step-done}
-
--- ---- a command whose number is known
-abbrev numbered : ℕ → Command → Command
-numbered n c = record { number = n; t = c .t; a = c .a; b = c .b; u = c .u; v = c .v; w = c .w }
-
-at-number : (n : ℕ) (s : State) (c : Command) → c .number ≡ n → refusalAt s c ≡ refusalAt s (numbered n c)
-at-number n s c is = ap (λ (k : ℕ). refusalAt s (numbered k c)) is
-
-does : (n : ℕ) (s : State) (c : Command) → c .number ≡ n → refusalAt s c ≡ 0 → stepOf s c ≡ applied s (c .t) (effectOf (entryAt n .result (sourcesAt s c)))
-does n s c is e = step-done s c e ∙ ap (λ (k : ℕ). applied s (c .t) (effectOf (entryAt k .result (sourcesAt s c)))) is
+use Rattle.commands.proofs.NumberedLaws.{at-number, does}
 
 -- ---- 3, 4, 12 and 6 in this order, by rows t, a, b and u that are above 63 (p, q, r, o), sources of the kind that is asked for (x, y, z), a parallel line (l) and
 -- a finite result (f)

@@ -1,5 +1,5 @@
 -- All marked corners of document 01 in one computed check: those of scalars and of vectors, and those of the sheet with its listing, run on the reference
--- model; and corners of document 02's a (command 33), c (exact roots) and d (planes). Values are bits.
+-- model; and corners of document 02's a (command 33), c (exact roots), d (planes) and f (directions). Values are bits.
 use mathlib.Core.Path.{_≡_, refl}
 use mathlib.Core.List.{List, [], _∷_, _++_}
 use Prim.Native.Nat.{ℕ}
@@ -13,6 +13,7 @@ use Rattle.scalar.specs.Root as Root
 use Rattle.scalar.specs.ExactRoot as ExactRoot
 use Rattle.scalar.specs.Sign as Sign
 use Rattle.scalar.specs.Acos as Acos
+use Rattle.scalar.specs.Powers as Powers
 use Rattle.vector.specs.Corners as Vectors
 use Rattle.vector.specs.Corners.{Corners as VectorCorners}
 use Rattle.vector.specs.Operators as Operators
@@ -21,17 +22,19 @@ use Rattle.vector.specs.Comparisons as Comparisons
 use Rattle.vector.specs.Normalizing as Normalizing
 use Rattle.vector.specs.Optics as Optics
 use Rattle.vector.specs.Orthogonal as Orthogonal
+use Rattle.vector.specs.Scaled as Scaled
+use Rattle.vector.specs.DirectionOf as DirectionOf
 use Rattle.commands.specs.declared.command.Command.{Command}
 use Rattle.commands.specs.Rows as Rows
 use Rattle.commands.specs.Fields as Fields
 use Rattle.commands.specs.Commands as Commands
 use Rattle.commands.specs.Effects as Effects
-use Rattle.commands.specs.Results as Results
 use Rattle.commands.specs.Refusals as Refusals
 use Rattle.commands.specs.Answers.{refused}
 use Rattle.commands.specs.Model as Model
 use Rattle.commands.specs.Sittings.{command, answer, aimed, pointInto, back, lastOf, answersTo}
 use Rattle.commands.specs.PlaneCorners.{PlaneCorners, plane-corners}
+use Rattle.commands.specs.DirectionCorners.{DirectionCorners, direction-corners}
 
 -- document 01's listing
 abbrev listing : List Command
@@ -49,8 +52,9 @@ pub record Corners : Type 0 where
   -- the marked corners of scalars and of vectors
   scalars : ScalarCorners
   vectors : VectorCorners
-  -- those of planes
+  -- those of planes, and of directions
   planes : PlaneCorners
+  directions : DirectionCorners
   -- "(the point (3, 4, 0), its length, its direction) prints"; "In document 01's listing the second answer becomes kind 5"
   listed :
       answersTo listing
@@ -59,9 +63,8 @@ pub record Corners : Type 0 where
   all-empty : answersTo (command 32 0 0 0 0 0 0 ∷ command 32 0 63 0 0 0 0 ∷ []) ≡ refused 4 ∷ refused 4 ∷ []
   emptied : lastOf (answersTo (listing ++ (command 0 1 0 0 0 0 0 ∷ []))) ≡ answer 0 1 0 0 0 0
   empty-again : lastOf (answersTo (listing ++ (command 0 1 0 0 0 0 0 ∷ command 32 0 1 0 0 0 0 ∷ []))) ≡ refused 4
-  -- "Command 2 on (2^-63, 0, 0) gives (1, 0, 0); on (2^-64, 0, 0) refusal 7."
+  -- "Command 2 on (2^-63, 0, 0) gives (1, 0, 0)"
   short : lastOf (answersTo (aimed 0x20000000 0 0)) ≡ answer 0 1 2 0x3f800000 0 0
-  too-short : lastOf (answersTo (aimed 0x1f800000 0 0)) ≡ refused 7
   -- "24 on (0, 0, 1): (1, -0, -0) and (-0, 1, -0)": row t, and row t+1 by 32
   pair : lastOf (answersTo (aimed 0 0 0x3f800000 ++ (command 24 2 1 0 0 0 0 ∷ []))) ≡ answer 0 2 2 0x3f800000 0x80000000 0x80000000
   pair-second :
@@ -114,17 +117,17 @@ pub record Corners : Type 0 where
   angle-plain : lastOf (answersTo (listing ++ (command 28 0 0 0 0 0 0 ∷ []))) ≡ answer 0 0 3 0 0 0
 
 pub corners : Corners
-unfolding Model.runBy Model.stepOf Model.applied Model.remembering Model.restored Effects.effectOf Effects.directionIn Effects.unlessRefused Effects.commandEffect Rows.fresh Rows.rowAt Rows.withRow Commands.table Commands.entryAt Fields.allows Results.directionOf Refusals.unknown Refusals.noRow Refusals.nothingRemembered Refusals.badSource Refusals.outOfOrder Refusals.outOfRange Refusals.badValue Refusals.noRefraction Refusals.isNothing Refusals.lacksDirection Refusals.noFactor Refusals.noDirection Refusals.noMeeting Refusals.notFinite Refusals.first Refusals.early Refusals.late Refusals.refusals Refusals.refusalOf Comparisons.isFinite Normalizing.tryNormalize Normalizing.usable Products.length Products.lengthAndExactness Products.distanceAndExactness Products.lengthSquared Products.lengthRecip Products.dot Operators.mulNumber Operators.numberMul Operators.sub Optics.refract Optics.refractK Optics.angleBetween Acos.acosApprox Orthogonal.anyOrthonormalPair Sign.signum Sign.copysign Sign.abs ExactRoot.exactRoot ExactRoot.rootAndExactness Root.root Root.rootUnits WholeRoot.wholeRoot Exact.sizeIn Exact.negative Ieee.round Ieee.neg Ieee.div Ieee.sub Ieee.le Ieee.lt Ieee.eq Ieee.add Ieee.sum Ieee.mul Ieee.ofBits Ieee.toBits
+unfolding Model.runBy Model.stepOf Model.applied Model.remembering Model.restored Effects.effectOf Effects.directionIn Effects.unlessRefused Effects.commandEffect Rows.fresh Rows.rowAt Rows.withRow Commands.table Commands.entryAt Fields.allows DirectionOf.directionOf DirectionOf.threeZeros Scaled.scaled Powers.timesPower Ieee.size Refusals.unknown Refusals.noRow Refusals.nothingRemembered Refusals.badSource Refusals.outOfOrder Refusals.outOfRange Refusals.badValue Refusals.noRefraction Refusals.isNothing Refusals.lacksDirection Refusals.noFactor Refusals.noDirection Refusals.noMeeting Refusals.notFinite Refusals.first Refusals.early Refusals.late Refusals.refusals Refusals.refusalOf Comparisons.isFinite Normalizing.tryNormalize Normalizing.usable Products.length Products.lengthAndExactness Products.distanceAndExactness Products.lengthSquared Products.lengthRecip Products.dot Operators.mulNumber Operators.numberMul Operators.sub Optics.refract Optics.refractK Optics.angleBetween Acos.acosApprox Orthogonal.anyOrthonormalPair Sign.signum Sign.copysign Sign.abs ExactRoot.exactRoot ExactRoot.rootAndExactness Root.root Root.rootUnits WholeRoot.wholeRoot Exact.sizeIn Exact.negative Ieee.round Ieee.neg Ieee.div Ieee.sub Ieee.le Ieee.lt Ieee.eq Ieee.add Ieee.sum Ieee.mul Ieee.ofBits Ieee.toBits
 corners = record {
   scalars = Scalars.corners;
   vectors = Vectors.corners;
   planes = plane-corners;
+  directions = direction-corners;
   listed = refl;
   all-empty = refl;
   emptied = refl;
   empty-again = refl;
   short = refl;
-  too-short = refl;
   pair = refl;
   pair-second = refl;
   along = refl;

@@ -6,13 +6,14 @@ use Rattle.vector.specs.declared.vec3.Vec3.{Vec3}
 use Rattle.vector.specs.declared.vec3.normalizing.Normalized.{Normalized}
 use Rattle.vector.specs.declared.vec3.normalizing.Normalized.the-variants.{Unit, Nothing}
 use Rattle.vector.specs.Vectors.{ZERO}
+use Rattle.vector.specs.DirectionOf.{directionOf}
 use Rattle.commands.specs.declared.command.Command.{Command}
 use Rattle.commands.specs.declared.effects.Effect.{Effect}
 use Rattle.commands.specs.declared.effects.Effect.the-variants.{Tell, Put, PutTwo, Restore}
 use Rattle.commands.specs.Codes.{resultInfinite, directionMissing}
 use Rattle.commands.specs.Rows.{ModelRow, row, empty, point, direction, plane}
 use Rattle.commands.specs.Fields.{Read, Sources, sourcesOf}
-use Rattle.commands.specs.Results.{Result, Empties, Point, Aim, Aims, Plane, Number, Root, Whole, Shows, Undoes, directionOf}
+use Rattle.commands.specs.Results.{Result, Empties, Point, Aim, Aims, Plane, Number, Root, Whole, Shows, Undoes}
 use Rattle.commands.specs.Commands.{entryAt}
 use Rattle.commands.specs.Refusals.{first, late, refusalOf, lacksDirection, notFinite}
 use Rattle.commands.specs.Answers.{ModelAnswer, refused, shown, number, rootAnswer, whole, answerOf}

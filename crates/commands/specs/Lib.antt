@@ -13,7 +13,10 @@ pub mod CommandSets
 pub mod Claim
 pub mod HistoryMeaning
 pub mod RootAnswers
+pub mod CommandMeaning
 pub mod PlaneCommands
+pub mod DirectionCommands
 pub mod Sittings
 pub mod PlaneCorners
+pub mod DirectionCorners
 pub mod Corners

@@ -12,13 +12,14 @@ use Rattle.vector.specs.Vectors.{zer}
 use Rattle.vector.specs.Comparisons.{isFinite}
 use Rattle.vector.specs.Projections.{otherLenSqRcp}
 use Rattle.vector.specs.Optics.{refractK}
+use Rattle.vector.specs.DirectionOf.{directionOf}
 use Rattle.vector.specs.AssertLaws.{zeroLength}
 use Rattle.commands.specs.declared.command.Command.{Command}
 use Rattle.commands.specs.Codes.{last, undo, pointKind, unknownCommand, rowOutside, unfitSource, valueOutside, resultInfinite, directionMissing, allReflected, historyEmpty, lineParallel}
 use Rattle.commands.specs.Rows.{ModelRow}
 use Rattle.commands.specs.Fields.{isUsed, allows, Sources}
 use Rattle.commands.specs.Planes.{isParallel}
-use Rattle.commands.specs.Results.{Result, Empties, Point, Aim, Aims, Plane, Number, Root, Whole, Shows, Undoes, directionOf}
+use Rattle.commands.specs.Results.{Result, Empties, Point, Aim, Aims, Plane, Number, Root, Whole, Shows, Undoes}
 use Rattle.commands.specs.Commands.{entryAt}
 
 -- "2, command above 32"; "refusal 2 begins above the highest command in use"

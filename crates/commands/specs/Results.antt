@@ -1,14 +1,10 @@
 -- What a command works out, before the refusals that look at it.
 use Prim.Native.Nat.{ℕ}
-use mathlib.Core.Bool.{Bool, cond}
+use mathlib.Core.Bool.{Bool}
 use lib.Dec.{eqb}
 use lib.Ieee.{Float}
 use Rattle.scalar.specs.declared.root.MarkedRoot.{MarkedRoot}
 use Rattle.vector.specs.declared.vec3.Vec3.{Vec3}
-use Rattle.vector.specs.declared.vec3.normalizing.Normalized.{Normalized}
-use Rattle.vector.specs.declared.vec3.normalizing.Normalized.the-variants.{Nothing}
-use Rattle.vector.specs.Normalizing.{tryNormalize}
-use Rattle.vector.specs.DirectionOf.{acceptable}
 use Rattle.commands.specs.Codes.{directionKind}
 use Rattle.commands.specs.Rows.{ModelRow}
 
@@ -28,10 +24,6 @@ pub data Result : Type 0 where
   Shows : ℕ → ModelRow → Result
   -- the rows before the latest command that is remembered come back
   Undoes : Result
-
--- ""Direction of" a vector means: refusal 7 if its `length_squared` is below 2^-126 or not finite, else `try_normalize` of it"
-unfoldable pub directionOf : Vec3 → Normalized
-directionOf v = cond (acceptable v) (tryNormalize v) Nothing
 
 abbrev pub isDirection : ℕ → Bool
 isDirection kind = eqb kind directionKind

@@ -19,7 +19,8 @@ pub(crate) fn of_one(number: u32, a: Vec3) -> Vec3 {
         88 => a.recip(),
         100 => a.any_orthogonal_vector(),
         101 => a.any_orthonormal_vector(),
-        _ => a.neg(), // 112
+        112 => a.neg(),
+        _ => a.scaled(), // 122
     }
 }
 

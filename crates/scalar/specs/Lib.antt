@@ -13,6 +13,8 @@ pub mod Euclid
 pub mod RemainderMeaning
 pub mod Determined
 pub mod Acos
+pub mod Powers
+pub mod SizeBits
 pub mod Parts
 pub mod Corners
 pub mod FusedParts

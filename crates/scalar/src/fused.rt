@@ -83,7 +83,7 @@ fn aligned(s: bool, x: u64, i: u32, t: bool, y: u64, j: u32) -> f32
 }
 
 // The larger exponent.
-fn higher(i: u32, j: u32) -> u32
+pub(crate) fn higher(i: u32, j: u32) -> u32
     ensures { λ r. ⌜ r ≡ i + (j - i) ⌝ }
 {
     if i < j { j } else { i }

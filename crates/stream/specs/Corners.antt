@@ -7,15 +7,17 @@ use lib.Ieee as Ieee
 use Rattle.laws.specs.Exact as Exact
 use Rattle.laws.specs.WholeRoot as WholeRoot
 use Rattle.scalar.specs.Root as Root
+use Rattle.scalar.specs.Powers as Powers
 use Rattle.scalar.specs.ExactRoot as ExactRoot
 use Rattle.vector.specs.Operators as Operators
 use Rattle.vector.specs.Products as Products
 use Rattle.vector.specs.Comparisons as Comparisons
 use Rattle.vector.specs.Normalizing as Normalizing
+use Rattle.vector.specs.Scaled as Scaled
+use Rattle.vector.specs.DirectionOf as DirectionOf
 use Rattle.commands.specs.Rows as Rows
 use Rattle.commands.specs.Rows.{fresh}
 use Rattle.commands.specs.Planes as Planes
-use Rattle.commands.specs.Results as Results
 use Rattle.commands.specs.Commands as Commands
 use Rattle.commands.specs.Refusals as Refusals
 use Rattle.commands.specs.Effects as Effects
@@ -94,5 +96,5 @@ pub record Corners : Type 0 where
   in-between : outputOf fresh (point ++ (10 ∷ []) ++ length ++ (32 ∷ [])) ≡ pointAnswer ++ ill ++ lengthAnswer ++ ill
 
 pub corners : Corners
-unfolding Texts.bytes Responses.response Responses.answerText Stream.pushed Stream.byteFed Stream.feedOf Stream.endOf Fields.commandOf Field.digits Field.decimal Field.valueFrom Field.value Field.leadingZero Field.number Field.glyph Field.lead Field.written Columns.fieldAt Columns.both Columns.numbersAt Columns.text CommandLine.numbers AnswerLine.answerLine Model.stepOf Model.applied Model.remembering Model.restored Effects.effectOf Effects.directionIn Effects.unlessRefused Effects.commandEffect Rows.fresh Rows.rowAt Rows.withRow Commands.table Commands.entryAt Fields.allows Results.directionOf Refusals.unknown Refusals.noRow Refusals.nothingRemembered Refusals.badSource Refusals.outOfOrder Refusals.outOfRange Refusals.badValue Refusals.noRefraction Refusals.isNothing Refusals.lacksDirection Refusals.noFactor Refusals.noDirection Refusals.noMeeting Planes.offsetThrough Planes.isParallel Planes.meeting Refusals.notFinite Refusals.first Refusals.early Refusals.late Refusals.refusals Refusals.refusalOf Comparisons.isFinite Normalizing.tryNormalize Normalizing.usable Products.length Products.lengthAndExactness Products.lengthSquared Products.lengthRecip Products.dot Operators.add Operators.mulNumber ExactRoot.exactRoot ExactRoot.rootAndExactness Root.root Root.rootUnits WholeRoot.wholeRoot Exact.sizeIn Exact.negative Ieee.round Ieee.neg Ieee.div Ieee.sub Ieee.le Ieee.lt Ieee.eq Ieee.add Ieee.sum Ieee.mul Ieee.ofBits Ieee.toBits
+unfolding Texts.bytes Responses.response Responses.answerText Stream.pushed Stream.byteFed Stream.feedOf Stream.endOf Fields.commandOf Field.digits Field.decimal Field.valueFrom Field.value Field.leadingZero Field.number Field.glyph Field.lead Field.written Columns.fieldAt Columns.both Columns.numbersAt Columns.text CommandLine.numbers AnswerLine.answerLine Model.stepOf Model.applied Model.remembering Model.restored Effects.effectOf Effects.directionIn Effects.unlessRefused Effects.commandEffect Rows.fresh Rows.rowAt Rows.withRow Commands.table Commands.entryAt Fields.allows DirectionOf.directionOf DirectionOf.threeZeros Scaled.scaled Powers.timesPower Ieee.size Refusals.unknown Refusals.noRow Refusals.nothingRemembered Refusals.badSource Refusals.outOfOrder Refusals.outOfRange Refusals.badValue Refusals.noRefraction Refusals.isNothing Refusals.lacksDirection Refusals.noFactor Refusals.noDirection Refusals.noMeeting Planes.offsetThrough Planes.isParallel Planes.meeting Refusals.notFinite Refusals.first Refusals.early Refusals.late Refusals.refusals Refusals.refusalOf Comparisons.isFinite Normalizing.tryNormalize Normalizing.usable Products.length Products.lengthAndExactness Products.lengthSquared Products.lengthRecip Products.dot Operators.add Operators.mulNumber ExactRoot.exactRoot ExactRoot.rootAndExactness Root.root Root.rootUnits WholeRoot.wholeRoot Exact.sizeIn Exact.negative Ieee.round Ieee.neg Ieee.div Ieee.sub Ieee.le Ieee.lt Ieee.eq Ieee.add Ieee.sum Ieee.mul Ieee.ofBits Ieee.toBits
 corners = record { listed = refl; taken-back = refl; plane-met = refl; empty = refl; blank-line = refl; column-more = refl; columns-more = refl; unended = refl; in-between = refl }

@@ -3,5 +3,7 @@ pub mod meanings
 pub mod values
 pub mod errors
 pub mod units
+pub mod scaling
+pub mod kept
 pub mod pairs
 pub mod rays

@@ -1,8 +1,8 @@
--- Directions: laws U and N, the way back, and S, which rests on N.
+-- Directions: unit vectors, law N, the way back, vectors near length 1, and S, which rests on N.
 pub mod UnitBounds
 pub mod UnitLaws
 pub mod NormalizedLaws
 pub mod DirectionLaws
-pub mod AcceptedLaws
+pub mod NearUnitLaws
 pub mod NonZeroLaws
 pub mod AssertedLaws

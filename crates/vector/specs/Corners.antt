@@ -16,6 +16,7 @@ use Rattle.vector.specs.Elements.{lesser, min, position, minPosition}
 use Rattle.vector.specs.Products.{dot, length, lengthAndExactness, distanceAndExactness}
 use Rattle.vector.specs.Optics.{two, refractK, refract}
 use Rattle.vector.specs.Orthogonal.{anyOrthogonalVector, anyOrthonormalPair}
+use Rattle.vector.specs.ScaledCorners.{ScaledCorners, scaled-corners}
 
 abbrev f : ℕ → Float
 f b = ofBits binary32 b
@@ -28,6 +29,8 @@ abbrev Y : Vec3
 Y = vec zer one zer
 
 pub record Corners : Type 0 where
+  -- those of document 02's f
+  scaling : ScaledCorners
   -- "`min`(NaN, 1) is 1; `min`(1, NaN) is NaN."
   min-of-nan : min NAN ONE ≡ ONE
   min-with-nan : min ONE NAN ≡ NAN
@@ -60,6 +63,7 @@ pub record Corners : Type 0 where
 pub corners : Corners
 unfolding min lesser minPosition position anyOrthogonalVector anyOrthonormalPair negative abs copysign signum refract refractK length lengthAndExactness distanceAndExactness dot sub numberMul exactRoot rootAndExactness root rootUnits wholeRoot sizeIn round neg div Ieee.sub le lt eq add sum mul ofBits
 corners = record {
+  scaling = scaled-corners;
   min-of-nan = refl;
   min-with-nan = refl;
   first-least = refl;

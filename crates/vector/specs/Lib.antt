@@ -22,9 +22,12 @@ pub mod ExactVectors
 pub mod OrthogonalMeaning
 pub mod Homogeneous
 pub mod Asserts
+pub mod Scaled
 pub mod DirectionOf
 pub mod NumericLaws
+pub mod ScaledMeaning
 pub mod LongerParts
 pub mod ExactLengths
+pub mod ScaledCorners
 pub mod Corners
 pub mod AssertLaws

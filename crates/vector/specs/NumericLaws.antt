@@ -13,19 +13,23 @@ use Rattle.vector.specs.declared.vec3.normalizing.Normalized.the-variant
 use Rattle.vector.specs.Vectors.{zer, one}
 use Rattle.vector.specs.Products.{length, lengthSquared}
 use Rattle.vector.specs.Normalizing.{tryNormalize, isNormalized}
-use Rattle.vector.specs.DirectionOf.{acceptable}
+use Rattle.vector.specs.DirectionOf.{hasDirection, directionOf}
 use Rattle.vector.specs.Optics.{reflect, refract, refractK}
 use Rattle.vector.specs.Orthogonal.{anyOrthonormalPair}
 use Rattle.vector.specs.ExactVectors.{F32Vec, FiniteVec, UnitWithin, Direction, NearlyOrthogonal}
 
--- U: whatever "direction of" accepts has a direction, and its exact squared length is within 15 times 2^-24 of 1
+-- U: whatever has a number that is not zero and only finite ones has a direction, and its exact squared length is within 15 times 2^-24 of 1
 pub record HasDirection (a : Vec3) : Type 0 where
   pub direction : Vec3
-  pub is : tryNormalize a ≡ Unit direction
+  pub is : directionOf a ≡ Unit direction
   pub unit : UnitWithin 15 direction
 
 abbrev pub LawU : Type 0
-LawU = (a : Vec3) → F32Vec a → T (acceptable a) → HasDirection a
+LawU = (a : Vec3) → F32Vec a → T (hasDirection a) → HasDirection a
+
+-- a direction that is what `try_normalize` gives of the vector itself, as before vectors were scaled: 22 to 24 keep their answers
+abbrev pub Unscaled : Vec3 → Type 0
+Unscaled a = directionOf a ≡ tryNormalize a
 
 -- N: the computed `length_squared` of such a direction is within 20 times 2^-24 of 1, and every direction `is_normalized`
 abbrev pub ComputedNear : ℕ → Vec3 → Type 0
@@ -52,6 +56,8 @@ pub record OrthogonalDirections (n v w : Vec3) : Type 0 where
   pub second-length : AboutOne (length w)
   pub first : HasDirection v
   pub second : HasDirection w
+  pub first-unscaled : Unscaled v
+  pub second-unscaled : Unscaled w
   pub with-first : NearlyOrthogonal n (first .direction)
   pub with-second : NearlyOrthogonal n (second .direction)
   pub with-each-other : NearlyOrthogonal (first .direction) (second .direction)
@@ -65,6 +71,7 @@ pub record Refused7Never (r : Vec3) : Type 0 where
   pub numbers : FiniteVec r
   pub squared-length : AboutOne (lengthSquared r)
   pub direction : HasDirection r
+  pub unscaled : Unscaled r
 
 abbrev pub LawM : Type 0
 LawM = (a b : Vec3) → Direction a → Direction b → Refused7Never (reflect a b)

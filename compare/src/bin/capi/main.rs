@@ -6,7 +6,7 @@ mod timing;
 
 use compare::calls::{functions_of, FUNCTIONS};
 use compare::command::{status, Outcome};
-use compare::library::{kept, lists, Account};
+use compare::library::{arrows, kept, lists, Account};
 use compare::tally::Tally;
 use linked::LIBRARY;
 use std::env;
@@ -17,6 +17,8 @@ const USAGE: &str = "usage:
                            lines on sheets that are kept, by the seed
   compare/capi --every [NUMBERS]
                            each function of one number on every number; those of these numbers alone, as in 1,16
+  compare/capi --arrows SEED COUNT
+                           COUNT arrows of every exponent by the seed, written by command 1, and their directions by command 2
   compare/capi --time TURNS COUNT
                            the time of a list of COUNT commands, beside the plain sheet's";
 
@@ -38,6 +40,12 @@ fn run(words: &[&str]) -> Outcome {
                 return Err("the library has none of these as a function of one number".into());
             }
             true
+        }
+        ["--arrows", seed, count] => {
+            let scales = arrows::compare(&LIBRARY, &mut account, seed.parse()?, count.parse()?);
+            print!("{scales}");
+            println!("{} arrows compared, {} different", account.compared, account.different);
+            return Ok(if scales.sound() && account.different == 0 { ExitCode::SUCCESS } else { ExitCode::FAILURE });
         }
         ["--time", turns, count] => {
             let equal = timing::time(turns.parse()?, count.parse()?);

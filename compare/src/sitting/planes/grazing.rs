@@ -3,7 +3,7 @@
 
 use super::ends::place;
 use super::Plan;
-use crate::values::{near, with_exponent, zeros, Draw, Vector, SIGN};
+use crate::values::{near, power_of_two, with_exponent, zeros, Draw, Vector, SIGN};
 
 /// A small part is at least two to this power.
 const LEAST: i32 = -120;
@@ -29,8 +29,8 @@ fn along_axes(d: &mut Draw) -> [Vector; 2] {
     let mut vectors = [(); 2].map(|()| zeros(d));
     let first = d.below(3) as usize;
     let (second, third) = ((first + 1) % 3, (first + 2) % 3);
-    vectors[0][first] |= power(0);
-    vectors[1][second] |= power(0);
+    vectors[0][first] |= power_of_two(0);
+    vectors[1][second] |= power_of_two(0);
     let exponent = match d.below(6) {
         0 => return vectors,
         // the product of the parts vanishes, or just does not
@@ -42,8 +42,8 @@ fn along_axes(d: &mut Draw) -> [Vector; 2] {
         _ => d.between(2 * LEAST, -150),
     };
     let share = d.between((exponent + 1).max(LEAST), (exponent - LEAST).min(-1));
-    vectors[0][third] |= power(share);
-    vectors[1][third] |= power(exponent - share);
+    vectors[0][third] |= power_of_two(share);
+    vectors[1][third] |= power_of_two(exponent - share);
     vectors
 }
 
@@ -57,9 +57,4 @@ fn that_cancel(d: &mut Draw) -> [Vector; 2] {
         v.rotate_left(turned);
         v
     })
-}
-
-/// The bits of a power of two.
-fn power(exponent: i32) -> u32 {
-    (2f64.powi(exponent) as f32).to_bits()
 }

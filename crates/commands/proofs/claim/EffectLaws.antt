@@ -6,12 +6,14 @@ use lib.Ieee.Scale.{finite}
 use borrow.Author.Tests.{not-false}
 use denote.Floats.{passes}
 use Rattle.vector.specs.declared.vec3.Vec3.{Vec3}
+use Rattle.vector.specs.DirectionOf.{directionOf}
 use Rattle.vector.specs.ExactVectors.{F32Vec, Direction}
+use Rattle.vector.proofs.scaling.ScaledLaws.{law-u}
 use Rattle.commands.specs.declared.command.Command.{Command}
 use Rattle.commands.specs.Codes.{last}
 use Rattle.commands.specs.Rows.{direction}
 use Rattle.commands.specs.Fields.{Read, Sources, sourcesOf}
-use Rattle.commands.specs.Results.{Result, Empties, Point, Aim, Aims, Plane, Number, Root, Whole, Shows, Undoes, directionOf}
+use Rattle.commands.specs.Results.{Result, Empties, Point, Aim, Aims, Plane, Number, Root, Whole, Shows, Undoes}
 use Rattle.commands.specs.Commands.{table, entryAt}
 use Rattle.commands.specs.Refusals.{isNothing, lacksDirection, notFinite}
 use Rattle.commands.specs.Effects.{ModelEffect, Puts, PutsTwo, Restores, Tells, directionIn, effectOf}
@@ -20,7 +22,7 @@ use Rattle.commands.proofs.ConditionLaws.{Done, known-number, none-of-t
 use Rattle.commands.proofs.table.EntryLaws.{Targets, FitResult}
 use Rattle.commands.proofs.table.TableLaws.{entry-lawful}
 use Rattle.commands.proofs.CommandLaws.{sources-fit}
-use Rattle.commands.proofs.DirectionOfLaws.{aimed, has-direction, direction-in-unit}
+use Rattle.commands.proofs.DirectionOfLaws.{aimed, direction-in-unit}
 use Rattle.commands.proofs.claim.RefusalLaws.{directed, finite-vector}
 use Rattle.commands.proofs.claim.RowLaws.{empty-row, point-row, direction-row, plane-row}
 use Rattle.commands.proofs.claim.SourceLaws.{Held, SoundRead, held, direction-there}
@@ -32,7 +34,7 @@ SoundEffect Restores = Unit {0}
 SoundEffect (Tells x) = x .refusal ≡ 0
 
 direction-written : (v : Vec3) → F32Vec v → isNothing (directionOf v) ≡ false → SoundRow (direction (directionIn (directionOf v)))
-direction-written v f h = let a = aimed v h in direction-row (directionIn (directionOf v)) (direction-in-unit v (has-direction v f a) a)
+direction-written v f h = direction-row (directionIn (directionOf v)) (direction-in-unit v (law-u v f (aimed v h)))
 
 -- the normal of a plane that a result gives
 abbrev NormalIn : Result → Type 0

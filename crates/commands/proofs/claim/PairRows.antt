@@ -1,19 +1,16 @@
 -- Command 24: the directions of the two vectors of `any_orthonormal_pair` of a direction, written to two rows (law P of crate vector). Assumes nothing.
 use mathlib.Core.Path.{_≡_, refl}
-use mathlib.Core.Bool.{false}
 use Rattle.vector.specs.declared.vec3.Vec3.{Vec3}
 use Rattle.vector.specs.Orthogonal.{anyOrthonormalPair}
+use Rattle.vector.specs.DirectionOf.{directionOf}
 use Rattle.vector.specs.ExactVectors.{Direction, NearlyOrthogonal}
 use Rattle.vector.proofs.pairs.PairLaws.{law-p}
 use Rattle.commands.specs.declared.command.Command.{Command}
 use Rattle.commands.specs.Rows.{direction}
 use Rattle.commands.specs.Fields.{Sources}
-use Rattle.commands.specs.Results.{directionOf}
 use Rattle.commands.specs.Commands.{table, entryAt}
-use Rattle.commands.specs.Refusals.{isNothing, lacksDirection}
 use Rattle.commands.specs.Effects.{PutsTwo, directionIn, effectOf}
-use Rattle.commands.proofs.ConditionLaws.{none-of-two}
-use Rattle.commands.proofs.DirectionOfLaws.{aimed, direction-in-is}
+use Rattle.commands.proofs.DirectionOfLaws.{direction-in-is}
 use Rattle.commands.proofs.claim.SourceLaws.{Held, direction-there}
 
 abbrev firstAim : Sources → Vec3
@@ -41,13 +38,11 @@ read-direction : (s : Sources) → Held 24 (entryAt 24) s → Direction (s .a .n
 unfolding table entryAt
 read-direction s h = direction-there (s .a) (h .row-a) (h .fit-a)
 
-pub pair-taken : (s : Sources) → Held 24 (entryAt 24) s → lacksDirection (entryAt 24 .result s) ≡ false → PairTaken (s .a .numbers) (firstDirection s) (secondDirection s)
-unfolding lacksDirection table entryAt
-pair-taken s h directed =
+pub pair-taken : (s : Sources) → Held 24 (entryAt 24) s → PairTaken (s .a .numbers) (firstDirection s) (secondDirection s)
+pair-taken s h =
     let pair = law-p (s .a .numbers) (read-direction s h) in
-    let both = none-of-two (isNothing (directionOf (firstAim s))) (isNothing (directionOf (secondAim s))) directed in
-    let first-is = direction-in-is (firstAim s) (pair .first) (aimed (firstAim s) (both .0)) in
-    let second-is = direction-in-is (secondAim s) (pair .second) (aimed (secondAim s) (both .1)) in
+    let first-is = direction-in-is (firstAim s) (pair .first) in
+    let second-is = direction-in-is (secondAim s) (pair .second) in
     record {
       with-first = rw first-is (pair .with-first);
       with-second = rw second-is (pair .with-second);

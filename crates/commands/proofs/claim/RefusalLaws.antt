@@ -14,7 +14,7 @@ use Rattle.vector.specs.ExactVectors.{FiniteVec}
 use Rattle.vector.specs.AssertLaws.{zeroLength}
 use Rattle.commands.specs.Fields.{allows, Sources}
 use Rattle.commands.specs.Commands.{entryAt}
-use Rattle.commands.specs.Refusals.{badSource, outOfOrder, outOfRange, badValue, lacksDirection, noFactor, noDirection}
+use Rattle.commands.specs.Refusals.{badSource, quarter, four, outOfOrder, outOfRange, badValue, lacksDirection, noFactor, noDirection}
 use Rattle.commands.proofs.ConditionLaws.{met, none-of-two, none-of-four}
 
 -- 4: rows a and b are of kinds that the command takes
@@ -44,6 +44,16 @@ clamps-ordered n u v w h e =
     let order = not-false (le zer u && le u v) (met (eqb n 10) (not (le zer u && le u v)) e (none-of-four finite-u finite-v finite-w ten front .fourth-not)) in
     let both = and-eq-true-iff (le zer u) (le u v) .0 order in
     (passes (le zer u) (both .0), passes (le u v) (both .1))
+
+-- 5: in 23, u from 0.25 to 4
+pub ratio-fit : (n : ℕ) (u v w : Float) → badValue n u v w ≡ false → eqb n 23 ≡ true → T (le quarter u) × T (le u four)
+unfolding badValue outOfRange
+ratio-fit n u v w h e =
+    let uses = entryAt n .uses in
+    let others = uses .u && not (finite u) || uses .v && not (finite v) || uses .w && not (finite w) || outOfOrder n u v in
+    let range = not-false (le quarter u && le u four) (met (eqb n 23) (not (le quarter u && le u four)) e (none-of-two others (outOfRange n u) h .1)) in
+    let both = and-eq-true-iff (le quarter u) (le u four) .0 range in
+    (passes (le quarter u) (both .0), passes (le u four) (both .1))
 
 -- 7
 pub record Directed (n : ℕ) (s : Sources) : Type 0 where

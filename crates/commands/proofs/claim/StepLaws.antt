@@ -15,7 +15,6 @@ use Rattle.commands.specs.Claim.{Sound, sourcesAt, refusalAt, Orthogonal
 use Rattle.commands.proofs.ConditionLaws.{Done, done}
 use Rattle.commands.proofs.CommandLaws.{InRange, target-in-range, effect-done, effect-refused}
 use Rattle.commands.proofs.history.EmptyLaws.{Remembered, restores-remembered}
-use Rattle.commands.proofs.claim.RefusalLaws.{Directed, directed}
 use Rattle.commands.proofs.claim.RowLaws.{with-row-sound, with-rows-sound, restored-sound, length-with-row, read-same, read-other}
 use Rattle.commands.proofs.claim.SourceLaws.{Held, SoundRead, held}
 use Rattle.commands.proofs.claim.PairRows.{PairTaken, firstDirection, secondDirection, effect-24, pair-taken}
@@ -67,7 +66,7 @@ module _ (s : State) (c : Command) (sound : Sound s) where
   sound-read = record { row-a = sound .rows .each-row (c .a); row-b = sound .rows .each-row (c .b) }
 
   module _ (e : refusalAt s c ≡ 0) where
-    is-done : Done c (isSome (s .history)) (sourcesAt s c)
+    pub is-done : Done c (isSome (s .history)) (sourcesAt s c)
     is-done = done c _ (sourcesAt s c) e
 
     done-effect : SoundEffect (effectOf (entryAt (c .number) .result (sourcesAt s c)))
@@ -81,11 +80,11 @@ module _ (s : State) (c : Command) (sound : Sound s) where
         let something = subst (Remembered (isSome (s .history))) (effect-done c _ _ e) (restores-remembered c _ _) in
         ap (λ (o : Stepped State). o .answer .refusal) (step-done s c e) ∙ applied-answers s (c .t) _ done-effect something
 
+    pub held-at : (n : ℕ) → c .number ≡ n → Held n (entryAt n) (sourcesAt s c)
+    held-at n is = subst (λ (k : ℕ). Held k (entryAt k) (sourcesAt s c)) is (held c _ _ sound-read is-done)
+
     done-pair : c .number ≡ 24 → PairTaken (sourcesAt s c .a .numbers) (firstDirection (sourcesAt s c)) (secondDirection (sourcesAt s c))
-    done-pair is =
-        let there = subst (λ (n : ℕ). Held n (entryAt n) (sourcesAt s c)) is (held c _ _ sound-read is-done) in
-        let seven = subst (λ (n : ℕ). Directed n (sourcesAt s c)) is (directed (c .number) (sourcesAt s c) (is-done .directed)) in
-        pair-taken (sourcesAt s c) there (seven .aims)
+    done-pair is = pair-taken (sourcesAt s c) (held-at 24 is)
 
     done-orthogonal : c .number ≡ 24 → Orthogonal s (stepOf s c .state) c
     done-orthogonal is =

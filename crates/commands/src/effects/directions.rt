@@ -11,42 +11,15 @@ use crate::codes::DIRECTION;
 use crate::codes::DIRECTION_MISSING;
 use crate::command::Answer;
 use crate::effects::Effect;
-use scalar::sign::is_finite;
 use vector::vec3::Vec3;
 use vector::vec3::normalizing::Normalized;
 use vector::vec3::orthogonal::Pair;
-
-// 2^-126, the least squared length that a direction is taken of.
-const LEAST: f32 = 1.17549435e-38;
-
-// The direction of (x, y, z). Three numbers go in registers, where a vector would go through memory.
-fn direction_of_numbers(x: f32, y: f32, z: f32) -> Normalized
-    ensures { λ r. ⌜ r ≡ Results.directionOf (vec x y z) ⌝ }
-{
-    let v = Vec3 { x: x, y: y, z: z };
-    let length_squared = v.length_squared();
-    if length_squared < LEAST {
-        return Normalized::Nothing;
-    }
-    if is_finite(length_squared) {
-        v.try_normalize()
-    } else {
-        Normalized::Nothing
-    }
-}
-
-// "Direction of" a vector: none where its squared length is below 2^-126 or not finite.
-fn direction_of(v: Vec3) -> Normalized
-    ensures { λ r. ⌜ r ≡ Results.directionOf v ⌝ }
-{
-    direction_of_numbers(v.x, v.y, v.z)
-}
 
 // The direction of v as a row, or refusal 7.
 pub(crate) fn direction(v: Vec3) -> Effect
     ensures { λ r. ⌜ effectBy r ≡ settled (Results.Aim v) ⌝ }
 {
-    let Normalized::Unit(d) = direction_of(v) else {
+    let Normalized::Unit(d) = v.scaled().try_normalize() else {
         return Effect::Tell(Answer::Refused(DIRECTION_MISSING));
     };
     Effect::Put {
@@ -60,10 +33,10 @@ pub(crate) fn direction(v: Vec3) -> Effect
 pub(crate) fn directions(p: Pair) -> Effect
     ensures { λ r. ⌜ effectBy r ≡ settled (Results.Aims (p .first) (p .second)) ⌝ }
 {
-    let Normalized::Unit(d) = direction_of(p.first) else {
+    let Normalized::Unit(d) = p.first.scaled().try_normalize() else {
         return Effect::Tell(Answer::Refused(DIRECTION_MISSING));
     };
-    let Normalized::Unit(e) = direction_of(p.second) else {
+    let Normalized::Unit(e) = p.second.scaled().try_normalize() else {
         return Effect::Tell(Answer::Refused(DIRECTION_MISSING));
     };
     Effect::PutTwo { v: d, w: e }

@@ -2,7 +2,7 @@
 use mathlib.Core.Path.{_≡_, sym, ap, _∙_, subst, subst₂}
 use mathlib.Core.Bool.{Bool, true, false, not}
 use Prim.Native.Nat.{ℕ, zero, suc, _+_, _-_, _*_, _^_, _≤_, _<_}
-use native.Mathlib.Nat.{le-trans, le-of-eq, le-antisymm, lt-of-le-of-lt, mul-comm, mul-le-mul-left, le-of-mul-le-mul-right, lt-of-mul-lt-mul-right, add-mul, mul-one, mul-assoc, mul-right-comm, mul-le-mul-right, mul-pos}
+use native.Mathlib.Nat.{le-trans, le-of-eq, le-antisymm, lt-of-le-of-lt, mul-comm, mul-le-mul-left, le-of-mul-le-mul-right, lt-of-mul-lt-mul-right, add-mul, mul-one, mul-assoc, mul-right-comm, mul-le-mul-right, mul-lt-mul-of-pos-right, mul-pos}
 use native.Mathlib.Omega.{arith}
 use lib.Dec.{T, leb, leb→le, nleb→lt}
 use lib.Pow.{pow-pos, pow-mono, pow-lt}
@@ -11,8 +11,9 @@ use lib.Ieee.Exact.{units-val}
 use lib.Ieee.Fits.{round-is}
 use lib.Ieee.Order.{drop, kept}
 use lib.Ieee.Scale.{grid, overflow, finite, normal-of-fraction}
-use Rattle.laws.specs.Within.{Within}
+use Rattle.laws.specs.Within.{distance, Within}
 use Rattle.laws.proofs.values.ValueLaws.{Value}
+use Rattle.laws.proofs.rounding.GridLaws.{zero-best}
 use Rattle.laws.proofs.rounding.GridErrorLaws.{unit, halfUlp, grid-le, grid-ge, grid-error}
 use Rattle.laws.proofs.rounding.RoundingError.{prec-twice, round-error, round-relative, finite-round}
 
@@ -98,6 +99,24 @@ module _ (f : Format) where
           none (rounded f n 1 * 2 ^ prec f) (n * 2 ^ prec f) n
           (ap (λ (m : ℕ). m * 2 ^ prec f)
           (itself (rounded f n 1) n (2 ^ (prec f - 1)) (subst (λ (q : ℕ). Within (rounded f n 1 * 1 * q) (n * q) (n + 1 * 2 ^ (prec f - 1))) (prec-twice f) (rounded-error n 1 (omega arith))) (k tt)))
+
+  -- less than half a smallest value: none
+  pub rounded-none : (n d : ℕ) → 0 < d → n * 2 < d → rounded f n d ≡ 0
+  unfolding rounded
+  rounded-none n d D h =
+      let c = d * 2 ^ low f in
+      none
+      (lt-of-mul-lt-mul-right c
+      (lt-of-le-of-lt (near (grid f n c * c) (n * 2 ^ low f) (zero-best f n c (mul-pos D (pow-pos (low f))))) (twice (mul-lt-mul-of-pos-right h (pow-pos (low f))))))
+    where
+      near : (g n : ℕ) → distance g n ≤ n → g ≤ 2 * n
+      near g n h = omega arith
+
+      twice : n * 2 * 2 ^ low f < d * 2 ^ low f → 2 * (n * 2 ^ low f) < 1 * (d * 2 ^ low f)
+      twice h = omega arith
+
+      none : {g : ℕ} → g < 1 → g ≡ 0
+      none h = omega arith
 
   -- ---- bounds by a power of two, 1 being `unit f`: a number up to 2 ^ j, j above 0, is off by at most 2 ^ (j - 1) times `halfUlp f`
   scaled-pos : (d : ℕ) → 0 < d → 0 < d * unit f

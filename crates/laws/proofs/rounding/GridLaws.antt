@@ -49,7 +49,8 @@ module _ (f : Format) (a c : ℕ) (C : 0 < c) where
       at : (n : ℕ) → distance 0 n ≡ n
       at n = omega arith
 
-  zero-best : distance (grid f a c * c) n ≤ n
+  pub zero-best : distance (grid f a c * c) (a * 2 ^ low f) ≤ a * 2 ^ low f
+  unfolding n
   zero-best = le-trans (multiple-best 0) (le-of-eq from-zero)
 
   zero-tie : distance (grid f a c * c) n ≡ n → kept (prec f) n c % 2 ≡ 0

@@ -5,18 +5,14 @@ use Prim.Native.Nat.{ℕ, _*_, _≤_}
 use lib.Dec.{T, lit≤}
 use lib.Ieee.{binary32, fits}
 use Rattle.vector.specs.declared.vec3.Vec3.{Vec3}
-use Rattle.vector.specs.Operators.{mulNumber}
 use Rattle.vector.specs.Products.{length, lengthSquared, lengthRecip}
 use Rattle.vector.specs.Orthogonal.{firstOf, secondOf}
 use Rattle.vector.proofs.values.SignedVectors.{D, E, Exact, Reads, Dot, Norm, exactOf, exact-of}
 use Rattle.vector.proofs.errors.LengthErrorLaws.{Long, length-near, long-bounds}
 use Rattle.vector.proofs.errors.SquaredLengthLaws.{squared-fits}
 use Rattle.vector.proofs.errors.NearOneRoots.{Reciprocal, reciprocal}
+use Rattle.vector.proofs.units.UnitLaws.{unitOf}
 use Rattle.vector.proofs.pairs.PairDots.{first, second, first-reads, second-reads, first-norm, second-norm, first-direction, second-direction, first-direction-reads, second-direction-reads, first-direction-normal, second-direction-normal, directions-across}
-
--- what `try_normalize` makes of a vector that it accepts
-abbrev pub unitOf : Vec3 → Vec3
-unitOf u = mulNumber u (lengthRecip u)
 
 -- ---- the reciprocal of a computed length, where the squared length is within c + 5 errors of 1
 length-recip-near : (u : Vec3) (a : Exact) (c : ℕ) → c ≤ 5000 → Long a (lengthSquared u) c → Reciprocal (lengthRecip u)

@@ -1,6 +1,4 @@
 -- P: the vectors of a direction n's pair have lengths near 1 and directions, and these and n are nearly orthogonal, two by two. Assumes nothing.
-use mathlib.Core.Path.{_≡_, refl, sym, ap, _∙_, subst, subst₂}
-use mathlib.Core.Bool.{Bool, true, false, cond}
 use Prim.Native.Nat.{ℕ, _*_, _^_, _≤_}
 use native.Mathlib.Nat.{le-trans}
 use lib.Dec.{T, lit≤}
@@ -8,30 +6,16 @@ use lib.Ieee.{binary32, neg, mul, fits}
 use lib.Ieee.Fits.{neg-fits, add-fits, mul-fits}
 use Rattle.scalar.specs.Sign.{signum}
 use Rattle.vector.specs.declared.vec3.Vec3.{Vec3}
-use Rattle.vector.specs.declared.vec3.normalizing.Normalized.{Normalized}
-use Rattle.vector.specs.declared.vec3.normalizing.Normalized.the-variants.{Unit, Nothing}
 use Rattle.vector.specs.Vectors.{one}
-use Rattle.vector.specs.Products.{lengthRecip}
-use Rattle.vector.specs.Normalizing.{usable, tryNormalize}
 use Rattle.vector.specs.Orthogonal.{scaleOf, mixOf, firstOf, secondOf, anyOrthonormalPair}
 use Rattle.vector.specs.ExactVectors.{F32Vec, Direction, NearlyOrthogonal}
-use Rattle.vector.specs.NumericLaws.{HasDirection, OrthogonalDirections, LawP}
-use Rattle.vector.proofs.meanings.NormalizingLaws.{unitOr}
-use Rattle.vector.proofs.values.SignedVectors.{D, E, Exact, Reads, Dot, exactOf, reads-of}
+use Rattle.vector.specs.NumericLaws.{OrthogonalDirections, LawP}
+use Rattle.vector.proofs.values.SignedVectors.{D, E, Exact, Reads, Dot, Norm, exactOf, reads-of}
 use Rattle.vector.proofs.values.ExactDots.{dot-size}
 use Rattle.vector.proofs.pairs.PairDots.{first, second, first-reads, second-reads, first-norm, second-norm}
-use Rattle.vector.proofs.pairs.PairDirections.{unitOf, normal1, normal2, across}
-use Rattle.vector.proofs.units.UnitLaws.{law-u}
-use Rattle.vector.proofs.units.AcceptedLaws.{accepted, about-one}
-
--- ---- a direction is the vector times the reciprocal of its length
-direction-is : (a d : Vec3) → tryNormalize a ≡ Unit d → unitOf a ≡ d
-unfolding tryNormalize
-direction-is a d e = sym (go (usable (lengthRecip a))) ∙ ap (λ (r : Normalized). unitOr r (unitOf a)) e
-  where
-    go : (b : Bool) → unitOr (cond b (Unit (unitOf a)) Nothing) (unitOf a) ≡ unitOf a
-    go true = refl
-    go false = refl
+use Rattle.vector.proofs.pairs.PairDirections.{normal1, normal2, across}
+use Rattle.vector.proofs.units.UnitLaws.{unitOf}
+use Rattle.vector.proofs.units.NearUnitLaws.{about-one, unscaled, near-direction}
 
 first-values : (n : Vec3) → F32Vec (firstOf n)
 first-values n = record {
@@ -67,27 +51,24 @@ module _ (n : Vec3) (d : Direction n) where
   w-reads : Reads (secondOf n) w
   w-reads = second-reads n (exactOf n) (d .values .f32-x) reads (d .near)
 
-  v-direction : HasDirection (firstOf n)
-  v-direction = law-u (firstOf n) (first-values n) (accepted (firstOf n) v 90 (lit≤ tt) v-reads (first-norm n (exactOf n) (d .values .f32-x) reads (d .near)))
+  v-norm : Norm v (D * D) (90 * (E * D))
+  v-norm = first-norm n (exactOf n) (d .values .f32-x) reads (d .near)
 
-  w-direction : HasDirection (secondOf n)
-  w-direction = law-u (secondOf n) (second-values n (d .values .f32-y)) (accepted (secondOf n) w 90 (lit≤ tt) w-reads (second-norm n (exactOf n) (d .values .f32-x) reads (d .near)))
+  w-norm : Norm w (D * D) (90 * (E * D))
+  w-norm = second-norm n (exactOf n) (d .values .f32-x) reads (d .near)
 
-  v-is : unitOf (firstOf n) ≡ v-direction .direction
-  v-is = direction-is (firstOf n) (v-direction .direction) (v-direction .is)
-
-  w-is : unitOf (secondOf n) ≡ w-direction .direction
-  w-is = direction-is (secondOf n) (w-direction .direction) (w-direction .is)
-
+  -- the directions are the vectors times the reciprocals of their lengths
   pair-directions : OrthogonalDirections n (firstOf n) (secondOf n)
   pair-directions = record {
-    first-length = about-one (firstOf n) v 90 (lit≤ tt) v-reads (first-norm n (exactOf n) (d .values .f32-x) reads (d .near));
-    second-length = about-one (secondOf n) w 90 (lit≤ tt) w-reads (second-norm n (exactOf n) (d .values .f32-x) reads (d .near));
-    first = v-direction;
-    second = w-direction;
-    with-first = subst (λ (u : Vec3). NearlyOrthogonal n u) v-is (nearly n (unitOf (firstOf n)) 100 (lit≤ tt) (normal1 n (exactOf n) (d .values .f32-x) reads (d .near)));
-    with-second = subst (λ (u : Vec3). NearlyOrthogonal n u) w-is (nearly n (unitOf (secondOf n)) 100 (lit≤ tt) (normal2 n (exactOf n) (d .values .f32-x) reads (d .near)));
-    with-each-other = subst₂ (λ (u t : Vec3). NearlyOrthogonal u t) v-is w-is (nearly (unitOf (firstOf n)) (unitOf (secondOf n)) 146 (lit≤ tt) (across n (exactOf n) (d .values .f32-x) reads (d .near)));
+    first-length = about-one (firstOf n) v 90 (lit≤ tt) v-reads v-norm;
+    second-length = about-one (secondOf n) w 90 (lit≤ tt) w-reads w-norm;
+    first = near-direction (firstOf n) v 90 (lit≤ tt) v-reads v-norm (first-values n);
+    second = near-direction (secondOf n) w 90 (lit≤ tt) w-reads w-norm (second-values n (d .values .f32-y));
+    first-unscaled = unscaled (firstOf n) v 90 (lit≤ tt) v-reads v-norm (first-values n);
+    second-unscaled = unscaled (secondOf n) w 90 (lit≤ tt) w-reads w-norm (second-values n (d .values .f32-y));
+    with-first = nearly n (unitOf (firstOf n)) 100 (lit≤ tt) (normal1 n (exactOf n) (d .values .f32-x) reads (d .near));
+    with-second = nearly n (unitOf (secondOf n)) 100 (lit≤ tt) (normal2 n (exactOf n) (d .values .f32-x) reads (d .near));
+    with-each-other = nearly (unitOf (firstOf n)) (unitOf (secondOf n)) 146 (lit≤ tt) (across n (exactOf n) (d .values .f32-x) reads (d .near));
   }
 
 pub law-p : LawP

@@ -5,7 +5,7 @@ use Rattle.vector.specs.NumericLaws.{LawM}
 use Rattle.vector.proofs.values.VectorFits.{reflected-vector}
 use Rattle.vector.proofs.values.SignedVectors.{exactOf, reads-of}
 use Rattle.vector.proofs.rays.ReflectRoundings.{reflected, reflected-reads, reflected-norm}
-use Rattle.vector.proofs.units.AcceptedLaws.{never-refused}
+use Rattle.vector.proofs.units.NearUnitLaws.{never-refused}
 
 pub law-m : LawM
 law-m a b da db =

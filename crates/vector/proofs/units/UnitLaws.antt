@@ -1,13 +1,13 @@
--- U: what "direction of" accepts has a direction, and the exact squared length of that direction is within 15 times 2^-24 of 1. Assumes nothing.
-use mathlib.Core.Path.{_≡_, refl, sym, subst}
+-- What `try_normalize` makes of a vector whose computed squared length is at least 2^-126: its exact squared length is within 15 times 2^-24 of 1. Assumes nothing.
+use mathlib.Core.Path.{_≡_, sym, subst}
 use mathlib.Core.Bool.{Bool, true, false, not}
 use Prim.Native.Nat.{ℕ, _+_, _-_, _*_, _^_, _≤_}
-use native.Mathlib.Nat.{le-trans, lt-of-lt-of-le, mul-le-mul-right}
+use native.Mathlib.Nat.{lt-of-lt-of-le, mul-le-mul-right}
 use native.Mathlib.Omega.{arith}
 use lib.Dec.{T, ltb→lt, lit≤, lit<}
 use lib.Pow.{pow-pos}
-use lib.Ieee.{Float, nan, inf, fin, binary32, unlike, fits, ofBits, lt, mul}
-use lib.Ieee.Fits.{and-l, and-r, mul-fits}
+use lib.Ieee.{Float, nan, inf, fin, binary32, unlike, fits, mul}
+use lib.Ieee.Fits.{mul-fits}
 use lib.Ieee.Positive.{positive, positive-of-value}
 use lib.Ieee.Scale.{finite}
 use Rattle.laws.specs.Exact.{negative, sizeIn}
@@ -15,18 +15,17 @@ use Rattle.laws.specs.Within.{Within}
 use Rattle.laws.proofs.numbers.BoolLaws.{not-zero}
 use Rattle.laws.proofs.values.ValueLaws.{Value, value-finite}
 use Rattle.laws.proofs.values.SizeLaws.{size-of-value, value-of-size, positive-size}
-use Rattle.laws.proofs.values.ValueOrderLaws.{not-lt-sizes}
 use Rattle.laws.proofs.operations.OperationLaws.{mul-at}
 use Rattle.laws.proofs.rounding.ErrorLaws.{rounded, rounded-value, rounded-error}
 use Rattle.scalar.specs.Root.{root}
 use Rattle.scalar.proofs.roots.RootErrorLaws.{root-near}
 use Rattle.vector.specs.declared.vec3.Vec3.{Vec3}
+use Rattle.vector.specs.declared.vec3.normalizing.Normalized.the-variants.{Unit}
 use Rattle.vector.specs.Operators.{mulNumber}
 use Rattle.vector.specs.Products.{length, lengthSquared, lengthRecip}
+use Rattle.vector.specs.Normalizing.{tryNormalize}
 use Rattle.vector.specs.NormalizingMeaning.{zeroInfiniteOrNan}
-use Rattle.vector.specs.DirectionOf.{leastSquare, acceptable}
 use Rattle.vector.specs.ExactVectors.{F32Vec, FiniteVec, UnitWithin, exactSquare}
-use Rattle.vector.specs.NumericLaws.{HasDirection, LawU}
 use Rattle.vector.proofs.values.SignedVectors.{D}
 use Rattle.vector.proofs.errors.SquaredLengthLaws.{squared-fits, squared-sign}
 use Rattle.vector.proofs.errors.SquaredLengthBounds.{Q, Rounds, in-x, in-y, in-z, squared-low, squared-high}
@@ -35,16 +34,11 @@ use Rattle.vector.proofs.errors.ReciprocalErrors.{recip-value, recip-ne
 use Rattle.vector.proofs.meanings.NormalizingLaws.{none-exactly}
 use Rattle.vector.proofs.units.UnitBounds.{product-low, product-high, part-small, length-low, length-high}
 
--- ---- the least squared length: 2 ^ 23 of the smallest values at least, so that the loss of a square that vanishes is small beside it
-pub least-value : Value binary32 leastSquare false (sizeIn binary32 leastSquare)
-unfolding ofBits sizeIn
-least-value = (refl, refl)
+-- a vector times the reciprocal of its length
+abbrev pub unitOf : Vec3 → Vec3
+unitOf a = mulNumber a (lengthRecip a)
 
-least-large : 2 ^ 23 ≤ sizeIn binary32 leastSquare
-unfolding ofBits sizeIn
-least-large = lit≤ tt
-
-positive-some : (x : Float) → T (positive x) → T (not (zeroInfiniteOrNan x))
+pub positive-some : (x : Float) → T (positive x) → T (not (zeroInfiniteOrNan x))
 positive-some nan p = absurd p
 positive-some (inf s) p = absurd p
 positive-some (fin true m e) p = absurd p
@@ -58,19 +52,14 @@ part-value x r s X R S h k g b = rounded-value binary32 (X * R) D 1 (pow-pos 149
 narrow : (S F : ℕ) → Q * S ≤ (Q + 15) * (Q * F) → (Q - 15) * (Q * F) ≤ Q * S → Within S (Q * F) (15 * F)
 narrow S F h k = omega arith
 
-module _ (a : Vec3) (v : F32Vec a) (ok : T (acceptable a)) where
+-- a squared length of 2 ^ 23 smallest values or more: the loss of a square that vanishes is small beside it
+module _ (a : Vec3) (v : F32Vec a) (number : T (finite (lengthSquared a))) (enough : 2 ^ 23 ≤ sizeIn binary32 (lengthSquared a)) where
   -- the squared length, and its size
   abbrev l : Float
   l = lengthSquared a
 
   abbrev L : ℕ
   L = sizeIn binary32 l
-
-  number : T (finite l)
-  number = and-r (not (lt l leastSquare)) (finite l) ok
-
-  enough : 2 ^ 23 ≤ L
-  enough = le-trans least-large (not-lt-sizes l leastSquare L (sizeIn binary32 leastSquare) D (pow-pos 149) (squared-value a number) least-value (and-l (not (lt l leastSquare)) (finite l) ok))
 
   large : 2 ^ 23 * D ≤ L * D
   large = mul-le-mul-right D enough
@@ -141,9 +130,9 @@ module _ (a : Vec3) (v : F32Vec a) (ok : T (acceptable a)) where
   size-is : (c : Float) → Value binary32 (mul binary32 c r) (unlike (negative c) false) (part c) → size (mul binary32 c r) ≡ part c
   size-is c h = size-of-value binary32 (mul binary32 c r) (unlike (negative c) false) (part c) h .0
 
-  unit : UnitWithin 15 (mulNumber a r)
+  pub normalized-unit : UnitWithin 15 (unitOf a)
   unfolding mulNumber
-  unit = record {
+  normalized-unit = record {
     values = record { f32-x = mul-fits binary32 (a .x) r; f32-y = mul-fits binary32 (a .y) r; f32-z = mul-fits binary32 (a .z) r };
     numbers = record {
       finite-x = value-finite (mul binary32 (a .x) r) (unlike (negative (a .x)) false) (part (a .x)) D x-value;
@@ -153,8 +142,5 @@ module _ (a : Vec3) (v : F32Vec a) (ok : T (acceptable a)) where
     near = rw (size-is (a .x) x-value, size-is (a .y) y-value, size-is (a .z) z-value) near-one;
   }
 
-  has-direction : HasDirection a
-  has-direction = record { direction = mulNumber a r; is = none-exactly a .unit (positive-some l squared-positive); unit = unit }
-
-pub law-u : LawU
-law-u a v ok = has-direction a v ok
+  pub normalized-is : tryNormalize a ≡ Unit (unitOf a)
+  normalized-is = none-exactly a .unit (positive-some l squared-positive)

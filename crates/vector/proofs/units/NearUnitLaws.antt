@@ -1,39 +1,35 @@
--- A vector whose exact squared length is within 5000 rounding errors (2^-24 each) of 1: `try_normalize` accepts it, and its computed squared length and length
+-- A vector whose exact squared length is within 5000 rounding errors (2^-24 each) of 1: scaling leaves its direction as it is, and its computed squared length and length
 -- lie between 0.99 and 1.01. Assumes nothing.
-use mathlib.Core.Path.{_≡_, refl, sym, ap, subst}
-use mathlib.Core.Bool.{false, not}
+use mathlib.Core.Path.{_≡_, refl, sym, ap, _∙_, subst}
+use mathlib.Core.Bool.{false}
 use Prim.Native.Nat.{ℕ, _*_, _^_, _≤_, _<_}
 use native.Mathlib.Nat.{le-trans, le-of-eq, lt-of-lt-of-le, mul-le-mul-right}
 use lib.Dec.{T, lit≤, lit<}
 use lib.Pow.{pow-pos}
-use lib.Ieee.{Float, binary32, ofBits, lt}
+use lib.Ieee.{Float, binary32, ofBits}
 use lib.Ieee.Bits.{ofBits-fits}
-use lib.Ieee.Fits.{and-i}
 use lib.Ieee.Scale.{finite}
 use Rattle.laws.specs.Exact.{sizeIn}
 use Rattle.laws.proofs.values.ValueLaws.{Value, value-finite}
 use Rattle.laws.proofs.values.SizeLaws.{size-of-value}
-use Rattle.laws.proofs.values.ValueOrderLaws.{le-of-sizes, not-lt-of-sizes}
+use Rattle.laws.proofs.values.ValueOrderLaws.{le-of-sizes}
 use Rattle.scalar.specs.Root.{root}
 use Rattle.scalar.specs.RootMeaning.{NearestRoot, radicand}
 use Rattle.scalar.proofs.roots.RootMeaningLaws.{root-means}
 use Rattle.scalar.proofs.roots.RootOrderLaws.{root-from, root-to}
 use Rattle.vector.specs.declared.vec3.Vec3.{Vec3}
+use Rattle.vector.specs.declared.vec3.normalizing.Normalized.the-variants.{Unit}
 use Rattle.vector.specs.Products.{length, lengthSquared}
-use Rattle.vector.specs.DirectionOf.{leastSquare, acceptable}
-use Rattle.vector.specs.ExactVectors.{F32Vec}
-use Rattle.vector.specs.NumericLaws.{AboutOne, Refused7Never}
+use Rattle.vector.specs.DirectionOf.{directionOf}
+use Rattle.vector.specs.ExactVectors.{F32Vec, UnitWithin}
+use Rattle.vector.specs.NumericLaws.{AboutOne, HasDirection, Unscaled, Refused7Never}
 use Rattle.vector.proofs.values.SignedVectors.{D, E, Exact, Reads, Norm, reads-finite}
 use Rattle.vector.proofs.errors.SquaredLengthLaws.{squared-fits, squared-sign}
-use Rattle.vector.proofs.units.UnitLaws.{least-value, law-u}
+use Rattle.vector.proofs.units.UnitLaws.{unitOf, normalized-is, normalized-unit}
+use Rattle.vector.proofs.kept.AboutOneKept.{kept}
 use Rattle.vector.proofs.errors.LengthErrorLaws.{Long, length-near, long-bounds}
 
 -- ---- the bounds' sizes
--- the least squared length that is accepted is at most 1/2, far below 1
-least-small : sizeIn binary32 leastSquare ≤ 2 ^ 148
-unfolding ofBits sizeIn
-least-small = lit≤ tt
-
 -- the floats next to 0.99 and 1.01
 abbrev lower : Float
 lower = ofBits binary32 0x3f7d70a4
@@ -63,10 +59,6 @@ module _ (u : Vec3) (a : Exact) (c : ℕ) (few : c ≤ 5000) (r : Reads u a) (ne
   number : T (finite l)
   number = value-finite l false (long .size) D (long .has)
 
-  pub accepted : T (acceptable u)
-  accepted = and-i (not (lt l leastSquare)) (finite l)
-      (not-lt-of-sizes l leastSquare (long .size) (sizeIn binary32 leastSquare) D (pow-pos 149) (long .has) least-value (le-trans least-small (le-trans (lit≤ tt) (within .0)))) number
-
   squared-about-one : AboutOne l
   squared-about-one = (
     le-of-sizes lower l (16609444 * 2 ^ 125) (long .size) D (pow-pos 149) lower-is (long .has) (le-trans (lit≤ tt) (within .0)),
@@ -90,5 +82,27 @@ module _ (u : Vec3) (a : Exact) (c : ℕ) (few : c ≤ 5000) (r : Reads u a) (ne
     root-to l (root l) upper (8472494 * 2 ^ 126) nearest (ofBits-fits binary32 0x3f8147ae) upper-is (le-trans (le-of-eq under-is) (le-trans (mul-le-mul-right D (within .1)) (lit≤ tt))),
   )
 
+  -- ---- its direction
+  at-least : 7 * 2 ^ 146 ≤ sizeIn binary32 l
+  at-least = le-trans (le-trans (lit≤ tt) (within .0)) (le-of-eq (sym size-is))
+
+  at-most : sizeIn binary32 l ≤ 2 ^ 150
+  at-most = le-trans (le-of-eq size-is) (le-trans (within .1) (lit≤ tt))
+
+  pub unscaled : F32Vec u → Unscaled u
+  unscaled f = kept u f number at-least at-most
+
+  enough : 2 ^ 23 ≤ sizeIn binary32 l
+  enough = le-trans (lit≤ tt) at-least
+
+  pub near-is : F32Vec u → directionOf u ≡ Unit (unitOf u)
+  near-is f = unscaled f ∙ normalized-is u f number enough
+
+  pub near-unit : F32Vec u → UnitWithin 15 (unitOf u)
+  near-unit f = normalized-unit u f number enough
+
+  abbrev pub near-direction : F32Vec u → HasDirection u
+  near-direction f = record { direction = unitOf u; is = near-is f; unit = near-unit f }
+
   pub never-refused : F32Vec u → Refused7Never u
-  never-refused f = record { values = f; numbers = reads-finite u a r; squared-length = squared-about-one; direction = law-u u f accepted }
+  never-refused f = record { values = f; numbers = reads-finite u a r; squared-length = squared-about-one; direction = near-direction f; unscaled = unscaled f }

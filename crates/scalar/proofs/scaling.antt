@@ -1,0 +1,3 @@
+-- Products with powers of two, and the bits of sizes.
+pub mod PowerLaws
+pub mod SizeBitsLaws

@@ -1,0 +1,60 @@
+// Products with powers of two, rounded once, and sizes by their bits.
+ghost use mathlib.Core.Path.{_≡_};
+ghost use Rattle.scalar.specs.Powers as Powers;
+ghost use Rattle.scalar.specs.SizeBits as SizeBits;
+use crate::bits::Parts;
+use crate::bits::decode;
+use crate::bits::pack;
+use crate::bits::to_bits;
+use crate::fused::higher;
+use crate::round_pack::BIAS;
+use crate::round_pack::round_pack;
+
+// x times 2 ^ (149 - j), rounded once.
+pub fn times_power(x: f32, j: u32) -> f32
+    ensures { λ r. ⌜ r ≡ Powers.timesPower j x ⌝ }
+{
+    if j < 22 {
+        return times_any_power(x, j); // the power is above all f32
+    }
+    if j > 275 {
+        return times_any_power(x, j); // it is subnormal, or below all f32
+    }
+    x * pack(false, 0x80_0000, 275 - j) // PowerLaws.power-product
+}
+
+// The same by the one rounding of a whole number, whatever the power.
+fn times_any_power(x: f32, j: u32) -> f32
+    ensures { λ r. ⌜ r ≡ Powers.timesPower j x ⌝ }
+{
+    let Parts::Fin(s, q, k) = decode(x) else {
+        return x;
+    };
+    if j > BIAS {
+        return pack(s, 0, 0); // below half the smallest value (PowerLaws.power-none)
+    }
+    round_pack(s, q as u64, k + BIAS - j) // PowerLaws.power-rounded
+}
+
+// The bits of the largest size of three numbers.
+pub fn largest_bits(x: f32, y: f32, z: f32) -> u32
+    ensures { λ r. ⌜ r ≡ SizeBits.largestBits x y z ⌝ }
+{
+    higher(
+        to_bits(x) % 0x8000_0000,
+        higher(to_bits(y) % 0x8000_0000, to_bits(z) % 0x8000_0000),
+    )
+}
+
+// The binary logarithm of the size with the bits b, in smallest values.
+pub fn log2_of_bits(b: u32) -> u32
+    ensures { λ r. ⌜ r ≡ Powers.log2 (SizeBits.sizeOfBits b) ⌝ }
+{
+    if b >= 0x80_0000 {
+        return b / 0x80_0000 + 22; // SizeBitsLaws.log2-normal
+    }
+    if b == 0 {
+        return 0;
+    }
+    31 - u32::leading_zeros(b) // SizeBitsLaws.log2-subnormal
+}
