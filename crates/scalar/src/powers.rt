@@ -10,30 +10,27 @@ use crate::fused::higher;
 use crate::round_pack::BIAS;
 use crate::round_pack::round_pack;
 
-// x times 2 ^ (149 - j), rounded once.
+// x times 2 ^ (149 - j), rounded once, whatever the power.
 pub fn times_power(x: f32, j: u32) -> f32
     ensures { λ r. ⌜ r ≡ Powers.timesPower j x ⌝ }
 {
-    if j < 22 {
-        return times_any_power(x, j); // the power is above all f32
-    }
-    if j > 275 {
-        return times_any_power(x, j); // it is subnormal, or below all f32
-    }
-    x * pack(false, 0x80_0000, 275 - j) // PowerLaws.power-product
-}
-
-// The same by the one rounding of a whole number, whatever the power.
-fn times_any_power(x: f32, j: u32) -> f32
-    ensures { λ r. ⌜ r ≡ Powers.timesPower j x ⌝ }
-{
     let Parts::Fin(s, q, k) = decode(x) else {
-        return x;
+        return x; // PowerLaws.power-other
     };
     if j > BIAS {
         return pack(s, 0, 0); // below half the smallest value (PowerLaws.power-none)
     }
     round_pack(s, q as u64, k + BIAS - j) // PowerLaws.power-rounded
+}
+
+// 2 ^ (149 - j) itself, rounded: infinite where j is below 22. A product with it is rounded once where it is an f32 (PowerLaws.power-factor).
+pub fn power_of_two(j: u32) -> f32
+    ensures { λ r. ⌜ r ≡ Powers.powerOfTwo j ⌝ }
+{
+    if j < 22 || j > 275 {
+        return times_power(1.0, j); // PowerLaws.power-of-one
+    }
+    pack(false, 0x80_0000, 275 - j) // a normal f32 (PowerLaws.power-packed)
 }
 
 // The bits of the largest size of three numbers.

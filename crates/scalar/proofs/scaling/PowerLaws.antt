@@ -8,6 +8,7 @@ use native.Mathlib.Omega.{arith}
 use lib.Dec.{T, lit≤, lit<}
 use lib.Pow.{pow-pos, pow-add, pow-lt, pow-mono}
 use lib.Ieee.{Float, nan, inf, fin, binary32, up, down, unlike, odd, units, round, mul, fits}
+use lib.Ieee.Bits.{ofBits-fits}
 use lib.Ieee.Exact.{units-val, round-exact}
 use lib.Ieee.Fits.{down-pos, round-fits}
 use lib.Ieee.Positive.{positive, positive-of-value}
@@ -19,8 +20,9 @@ use Rattle.laws.proofs.values.SizeLaws.{value-of-size}
 use Rattle.laws.proofs.operations.OperationLaws.{mul-at}
 use Rattle.laws.proofs.rounding.ErrorLaws.{rounded-none, rounded-value}
 use Rattle.scalar.specs.Parts.{Split}
-use Rattle.scalar.specs.Powers.{timesPower}
+use Rattle.scalar.specs.Powers.{timesPower, powerOfTwo}
 use Rattle.scalar.proofs.floats.PartsLaws.{Other, value-of-parts, parts-under}
+use Rattle.scalar.proofs.floats.PackLaws.{pack-is}
 use Rattle.scalar.proofs.products.RoundPackLaws.{round-zero}
 
 -- ±N smallest values times 2 ^ (149 - j) are ±N / 2 ^ j
@@ -118,16 +120,42 @@ module _ (j : ℕ) (y : Float) (hi : j ≤ 298) (is : Value binary32 y false (2 
   by-product (inf s) f = infinite y (positive-of-value y (2 ^ (298 - j)) (2 ^ 149) is (pow-pos (298 - j))) s
   by-product (fin s m e) f = product (fin s m e) (negative (fin s m e)) (sizeIn binary32 (fin s m e)) (value-of-size binary32 (fin s m e) f tt)
 
--- 2 ^ (298 - j) smallest values are below the overflow
-under : (j : ℕ) → 22 ≤ j → 2 ^ (298 - j) < 2 ^ 277
-under j h = pow-lt (less j h)
-  where
-    less : (j : ℕ) → 22 ≤ j → 298 - j < 277
-    less j h = omega arith
+-- ---- the power itself: 1 times it
+pub power-of-one : (j : ℕ) (one : Float) → Value binary32 one false (2 ^ 149) → timesPower j one ≡ powerOfTwo j
+unfolding powerOfTwo
+power-of-one j one v = power-at j one false (2 ^ 149) v
 
--- a normal power, packed
-pub power-product : (j : ℕ) → 22 ≤ j → j ≤ 275 → (x : Float) → T (fits binary32 x) → mul binary32 x (units binary32 false 8388608 (275 - j)) ≡ timesPower j x
-power-product j lo hi = by-product j (units binary32 false 8388608 (275 - j)) (omega arith) is
+-- an f32 of 2 ^ (298 - j) smallest values
+module _ (j : ℕ) (lo : 22 ≤ j) (hi : j ≤ 298) where
+  under : 2 ^ (298 - j) < 2 ^ 277
+  under = pow-lt (less j lo)
+    where
+      less : (j : ℕ) → 22 ≤ j → 298 - j < 277
+      less j h = omega arith
+
+  same : 2 ^ 149 * 2 ^ 149 ≡ 2 ^ (298 - j) * 2 ^ j
+  same = sym (pow-add 2 149 149) ∙ ap (λ (n : ℕ). 2 ^ n) (sums j hi) ∙ pow-add 2 (298 - j) j
+    where
+      sums : (j : ℕ) → j ≤ 298 → 149 + 149 ≡ 298 - j + j
+      sums j h = omega arith
+
+  exact-power : Value binary32 (powerOfTwo j) false (2 ^ (298 - j))
+  unfolding powerOfTwo
+  exact-power =
+      value-same (round binary32 false (2 ^ 149) (2 ^ j)) false (2 ^ 149) (2 ^ j) (2 ^ (298 - j)) (2 ^ 149) (pow-pos j) same
+      (round-exact binary32 false (2 ^ 149) (2 ^ j) 1 (298 - j) (pow-pos j) (lit< tt) (lt-of-le-of-lt (le-of-eq (one-mul (2 ^ (298 - j)))) under)
+      (same ∙ ap (λ (n : ℕ). n * 2 ^ j) (sym (one-mul (2 ^ (298 - j))))))
+
+  -- a product with it is rounded once
+  pub power-factor : (x : Float) → T (fits binary32 x) → mul binary32 x (powerOfTwo j) ≡ timesPower j x
+  power-factor = by-product j (powerOfTwo j) hi exact-power
+
+-- a normal one, packed
+pub power-packed : (j : ℕ) → 22 ≤ j → j ≤ 275 → units binary32 false 8388608 (275 - j) ≡ powerOfTwo j
+unfolding powerOfTwo
+power-packed j lo hi =
+    value-unique binary32 (units binary32 false 8388608 (275 - j)) (round binary32 false (2 ^ 149) (2 ^ j)) false (2 ^ (298 - j)) packed-fits (round-fits binary32 false (2 ^ 149) (2 ^ j)) is
+    (exact-power j lo (omega arith))
   where
     size-is : 8388608 * 2 ^ (275 - j) ≡ 2 ^ (298 - j)
     size-is = sym (pow-add 2 23 (275 - j)) ∙ ap (λ (n : ℕ). 2 ^ n) (sums j hi)
@@ -138,21 +166,10 @@ power-product j lo hi = by-product j (units binary32 false 8388608 (275 - j)) (o
     is : Value binary32 (units binary32 false 8388608 (275 - j)) false (2 ^ (298 - j))
     is =
         subst (λ (n : ℕ). Value binary32 (units binary32 false 8388608 (275 - j)) false n) size-is
-        (units-val binary32 false 8388608 (275 - j) (lt-of-le-of-lt (le-of-eq size-is) (under j lo)))
+        (units-val binary32 false 8388608 (275 - j) (lt-of-le-of-lt (le-of-eq size-is) (under j lo (omega arith))))
 
--- any power that is an f32: 1 times it
-pub power-factor : (one : Float) (j : ℕ) → Value binary32 one false (2 ^ 149) → 22 ≤ j → j ≤ 298 → (x : Float) → T (fits binary32 x) → mul binary32 x (timesPower j one) ≡ timesPower j x
-power-factor one j v lo hi = by-product j (timesPower j one) hi is
-  where
-    same : 2 ^ 149 * 2 ^ 149 ≡ 2 ^ (298 - j) * 2 ^ j
-    same = sym (pow-add 2 149 149) ∙ ap (λ (n : ℕ). 2 ^ n) (sums j hi) ∙ pow-add 2 (298 - j) j
-      where
-        sums : (j : ℕ) → j ≤ 298 → 149 + 149 ≡ 298 - j + j
-        sums j h = omega arith
-
-    is : Value binary32 (timesPower j one) false (2 ^ (298 - j))
-    is =
-        subst (λ (y : Float). Value binary32 y false (2 ^ (298 - j))) (sym (power-at j one false (2 ^ 149) v))
-        (value-same (round binary32 false (2 ^ 149) (2 ^ j)) false (2 ^ 149) (2 ^ j) (2 ^ (298 - j)) (2 ^ 149) (pow-pos j) same
-        (round-exact binary32 false (2 ^ 149) (2 ^ j) 1 (298 - j) (pow-pos j) (lit< tt) (lt-of-le-of-lt (le-of-eq (one-mul (2 ^ (298 - j)))) (under j lo))
-        (same ∙ ap (λ (n : ℕ). n * 2 ^ j) (sym (one-mul (2 ^ (298 - j)))))))
+    packed-fits : T (fits binary32 (units binary32 false 8388608 (275 - j)))
+    packed-fits =
+        subst (λ (y : Float). T (fits binary32 y))
+        (pack-is false 8388608 (275 - j) (record { most = lit≤ tt; range = omega arith; least = λ h. absurd (omega (arith, h)) }))
+        (ofBits-fits binary32 (0 + (275 - j) * 8388608 + 8388608))

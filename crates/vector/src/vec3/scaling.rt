@@ -4,6 +4,7 @@ ghost use Rattle.vector.specs.Scaled as Scaled;
 use crate::vec3::Vec3;
 use scalar::powers::largest_bits;
 use scalar::powers::log2_of_bits;
+use scalar::powers::power_of_two;
 use scalar::powers::times_power;
 
 impl Vec3 {
@@ -24,6 +25,6 @@ impl Vec3 {
                 z: times_power(self.z, j),
             };
         }
-        self.mul_f32(times_power(1.0, j)) // PowerLaws.power-factor
+        self.mul_f32(power_of_two(j)) // PowerLaws.power-factor
     }
 }

@@ -6,15 +6,14 @@ use native.Mathlib.Omega.{arith}
 use lib.Dec.{T, lit≤}
 use lib.Ieee.{Float, binary32, fits, mul}
 use borrow.Author.Needs.{needs}
-use Rattle.scalar.specs.Powers.{timesPower, log2}
+use Rattle.scalar.specs.Powers.{timesPower, powerOfTwo, log2}
 use Rattle.scalar.specs.SizeBits.{sizeOfBits}
 use Rattle.scalar.proofs.scaling.PowerLaws.{power-factor}
 use Rattle.scalar.proofs.scaling.SizeBitsLaws.{log2-range}
-use Rattle.vector.specs.Vectors.{one, vec, each}
+use Rattle.vector.specs.Vectors.{vec, each}
 use Rattle.vector.specs.Operators.{mulNumber}
 use Rattle.vector.specs.ExactVectors.{F32Vec}
 use Rattle.vector.specs.Scaled.{scaled}
-use Rattle.vector.proofs.values.SignedVectors.{one-is}
 use Rattle.vector.proofs.scaling.ScaledBits.{scaled-other, scaled-by-bits}
 use Rattle.vector.proofs.vec3.Vec3.scaled.Statement.{statement}
 use Rattle.vector.proofs.vec3.Vec3.scaled.Tie as tie
@@ -42,10 +41,10 @@ returns-2 c =
     ∙ by-bits (c .before .before .before .before)
 
 -- the power is an f32, and one product with it is rounded once
-factor : (c : tie.Else2) (x : Float) → T (fits binary32 x) → mul binary32 x (timesPower (c .before .log2-of-bits .result) one) ≡ timesPower (c .before .log2-of-bits .result) x
+factor : (c : tie.Else2) (x : Float) → T (fits binary32 x) → mul binary32 x (powerOfTwo (c .before .log2-of-bits .result)) ≡ timesPower (c .before .log2-of-bits .result) x
 factor c x f =
     let l = c .before in
-    power-factor one (l .log2-of-bits .result) one-is (c .if2 .left)
+    power-factor (l .log2-of-bits .result) (c .if2 .left)
     (le-trans (le-of-eq (l .log2-of-bits .ensures)) (le-trans (log2-range (l .before .before .largest-bits .result) (omega arith)) (lit≤ tt))) x f
 
 returns-3 : tie.Need-returns-3
@@ -55,7 +54,7 @@ returns-3 c =
     let s = e .before .before .before .before in
     let v = s .args .self in
     let f = held s in
-    c .mul-f32 .ensures ∙ ap (mulNumber v) (c .before .times-power4 .ensures)
+    c .mul-f32 .ensures ∙ ap (mulNumber v) (c .before .power-of-two .ensures)
     ∙ (λ i. vec (factor e (v .x) (f .f32-x) i) (factor e (v .y) (f .f32-y) i) (factor e (v .z) (f .f32-z) i))
     ∙ by-bits (e .before)
 
