@@ -16,6 +16,7 @@ use Rattle.vector.specs.Comparisons.{isFinite}
 use Rattle.vector.specs.Normalizing.{tryNormalize}
 use Rattle.vector.specs.Scaled.{scaled}
 use Rattle.vector.specs.DirectionOf.{threeZeros, hasDirection, directionOf}
+use Rattle.vector.specs.ExactVectors.{F32Vec}
 use Rattle.vector.specs.NumericLaws.{Unscaled}
 use Rattle.vector.proofs.scaling.ScaledBits.{all-finite}
 use Rattle.vector.proofs.pairs.PairLaws.{law-p}
@@ -31,7 +32,7 @@ use Rattle.commands.specs.Effects.{directionIn, effectOf}
 use Rattle.commands.specs.Model.{applied, readAt}
 use Rattle.commands.specs.Claim.{Sound, sourcesAt, refusalAt}
 use Rattle.commands.specs.CommandMeaning.{isOf, vectorAt, above63, refusedBy, writing}
-use Rattle.commands.specs.DirectionCommands.{reflected, refracted, k23, firstOf24, secondOf24, unfitRatio, unlessDirected, writingTwo, DirectionCommands}
+use Rattle.commands.specs.DirectionCommands.{reflected, refracted, k23, firstOf24, secondOf24, unfitRatio, unlessDirected, writingTwo, RowsRefusedBy, refused2, DirectionCommands}
 use Rattle.commands.proofs.ConditionLaws.{done, none-of-two, met}
 use Rattle.commands.proofs.DirectionOfLaws.{refused-exactly, aimed}
 use Rattle.commands.proofs.NumberedLaws.{at-number, does}
@@ -69,16 +70,12 @@ not-both true q = refl
 not-both false q = refl
 
 -- ---- what refusal 7 looks at, in f32 numbers
-module _ (s : State) (c : Command) (sound : Sound s) where
+module _ (s : State) (c : Command) (fa : F32Vec (vectorAt s (c .a))) (fb : F32Vec (vectorAt s (c .b))) where
   fit-result : (n : ℕ) → n ≤ last → FitResult (entryAt n .result (sourcesAt s c))
-  fit-result n l = entry-lawful n l .fits (sourcesAt s c) (sources-fit c (readAt s c) (sound .rows .each-row (c .a) .values) (sound .rows .each-row (c .b) .values))
+  fit-result n l = entry-lawful n l .fits (sourcesAt s c) (sources-fit c (readAt s c) fa fb)
 
-  -- 2: a row is finite
-  seven-2 : isNothing (directionOf (vectorAt s (c .a))) ≡ not (not (threeZeros (vectorAt s (c .a))))
-  seven-2 =
-      let v = vectorAt s (c .a) in
-      refused-exactly v (sound .rows .each-row (c .a) .values)
-      ∙ ap (λ (b : Bool). not (b && not (threeZeros v))) (is-true (isFinite v) (all-finite v (sound .rows .each-row (c .a) .numbers-finite)))
+  seven-2 : isNothing (directionOf (vectorAt s (c .a))) ≡ not (hasDirection (vectorAt s (c .a)))
+  seven-2 = refused-exactly (vectorAt s (c .a)) fa
 
   seven-22 : isNothing (directionOf (reflected s c)) ≡ not (hasDirection (reflected s c))
   unfolding table entryAt
@@ -120,28 +117,41 @@ unscaled-23 s c sound is e =
     let free = k-from-test a b u da db fit (range .0) (range .1) (met (eqb (c .number) 23) (lt (k23 s c) zer) number (d .refracts)) in
     law-r a b u da db fit (range .0) (range .1) free .unscaled
 
+-- ---- 2, and on a sheet that commands have made, where rows are finite
+refusal-2 : RowsRefusedBy 2 (λ s c. refused2 (unlessDirected (hasDirection (vectorAt s (c .a)))) s c)
+unfolding refusalOf refusals early late first unknown noRow nothingRemembered badSource outOfOrder outOfRange badValue noRefraction noDirection noMeeting lacksDirection notFinite entryAt table allows
+refusal-2 s c fa fb is =
+    at-number 2 s c is
+    ∙ rw (seven-2 s c fa fb)
+    (first-of-five (above63 (c .t)) (above63 (c .a)) false false (isOf pointKind s (c .a) || isOf directionKind s (c .a)) true false false (hasDirection (vectorAt s (c .a)))
+    ∙ simp (or-false, and-true))
+
+finite-row : (s : State) (c : Command) → Sound s → hasDirection (vectorAt s (c .a)) ≡ not (threeZeros (vectorAt s (c .a)))
+finite-row s c sound =
+    let v = vectorAt s (c .a) in
+    ap (λ (b : Bool). b && not (threeZeros v)) (is-true (isFinite v) (all-finite v (sound .rows .each-row (c .a) .numbers-finite)))
+
 pub direction-commands : DirectionCommands
 unfolding refusalOf refusals early late first unknown noRow nothingRemembered badSource outOfOrder outOfRange badValue noRefraction noDirection noMeeting lacksDirection notFinite entryAt table allows applied effectOf
 direction-commands = record {
-  refused-2 = λ s c sound is.
-      at-number 2 s c is
-      ∙ rw (seven-2 s c sound)
-      (first-of-five (above63 (c .t)) (above63 (c .a)) false false (isOf pointKind s (c .a) || isOf directionKind s (c .a)) true false false (not (threeZeros (vectorAt s (c .a))))
-      ∙ simp (or-false, and-true));
-  refused-22 = λ s c sound is.
+  refused-2 = refusal-2;
+  zeros-2 = λ s c sound is.
+      refusal-2 s c (sound .rows .each-row (c .a) .values) (sound .rows .each-row (c .b) .values) is
+      ∙ ap (λ (b : Bool). refused2 (unlessDirected b) s c) (finite-row s c sound);
+  refused-22 = λ s c fa fb is.
       at-number 22 s c is
-      ∙ rw (seven-22 s c sound)
+      ∙ rw (seven-22 s c fa fb)
       (first-of-five (above63 (c .t)) (above63 (c .a)) (above63 (c .b)) false (isOf directionKind s (c .a)) (isOf directionKind s (c .b)) false false (hasDirection (reflected s c))
       ∙ simp (or-false));
-  refused-23 = λ s c sound is.
+  refused-23 = λ s c fa fb is.
       at-number 23 s c is
-      ∙ rw (seven-23 s c sound, one-value (not (finite (ofBits binary32 (c .u)))) (not (le quarter (ofBits binary32 (c .u)) && le (ofBits binary32 (c .u)) four)))
+      ∙ rw (seven-23 s c fa fb, one-value (not (finite (ofBits binary32 (c .u)))) (not (le quarter (ofBits binary32 (c .u)) && le (ofBits binary32 (c .u)) four)))
       (first-of-five (above63 (c .t)) (above63 (c .a)) (above63 (c .b)) false (isOf directionKind s (c .a)) (isOf directionKind s (c .b)) (unfitRatio (ofBits binary32 (c .u)))
       (lt (k23 s c) zer) (hasDirection (refracted s c))
       ∙ simp (or-false));
-  refused-24 = λ s c sound is.
+  refused-24 = λ s c fa fb is.
       at-number 24 s c is
-      ∙ rw (seven-24 s c sound)
+      ∙ rw (seven-24 s c fa fb)
       (first-of-five (above63 (c .t)) (above63 (c .a)) false (eqb (c .t) 63) (isOf directionKind s (c .a)) true false false (hasDirection (firstOf24 s c) && hasDirection (secondOf24 s c))
       ∙ simp (or-false, and-true));
   does-2 = λ s c is e. does 2 s c is e ∙ ap (λ (d : Normalized). writing s c (direction (directionIn d))) (scaled-direction (vectorAt s (c .a)) (lacks-none 2 s c is e));

@@ -1,4 +1,4 @@
--- What 2 and 22 to 24 are refused by and what they write (document 02, f): of every state that commands make, and every command, whatever its other fields.
+-- What 2 and 22 to 24 are refused by and what they write (document 02, f): of every state and every command, whatever its other fields.
 use Prim.Native.Nat.{ℕ, _+_}
 use mathlib.Core.Path.{_≡_}
 use mathlib.Core.Bool.{Bool, cond, not, _&&_, _||_}
@@ -12,6 +12,7 @@ use Rattle.vector.specs.Scaled.{scaled}
 use Rattle.vector.specs.DirectionOf.{threeZeros, hasDirection}
 use Rattle.vector.specs.Optics.{reflect, refract, refractK}
 use Rattle.vector.specs.Orthogonal.{anyOrthonormalPair}
+use Rattle.vector.specs.ExactVectors.{F32Vec}
 use Rattle.commands.specs.declared.command.Command.{Command}
 use Rattle.commands.specs.Codes.{pointKind, directionKind, valueOutside, directionMissing, allReflected}
 use Rattle.commands.specs.Rows.{ModelRow, State, direction, withRow}
@@ -54,6 +55,10 @@ normalized v = direction (directionIn (tryNormalize v))
 abbrev pub writingTwo : State → Command → ModelRow → ModelRow → Stepped State
 writingTwo s c p q = stepped (withRows s (c .t) (withRow (withRow (s .rows) (c .t) p) (c .t + 1) q)) (shown (c .t) p)
 
+-- where rows a and b hold f32 values, as those of every sheet in words do
+abbrev pub RowsRefusedBy : ℕ → (State → Command → ℕ) → Type 0
+RowsRefusedBy n refusal = (s : State) (c : Command) → F32Vec (vectorAt s (c .a)) → F32Vec (vectorAt s (c .b)) → c .number ≡ n → refusalAt s c ≡ refusal s c
+
 -- on a sheet that commands have made (specs/Claim)
 abbrev pub SoundRefusedBy : ℕ → (State → Command → ℕ) → Type 0
 SoundRefusedBy n refusal = (s : State) (c : Command) → Sound s → c .number ≡ n → refusalAt s c ≡ refusal s c
@@ -61,21 +66,24 @@ SoundRefusedBy n refusal = (s : State) (c : Command) → Sound s → c .number �
 abbrev pub SoundDoes : ℕ → (State → Command → Stepped State) → Type 0
 SoundDoes n step = (s : State) (c : Command) → Sound s → c .number ≡ n → refusalAt s c ≡ 0 → stepOf s c ≡ step s c
 
+-- the refusals of 2, where this is its number after 3 and 4
+abbrev pub refused2 : ℕ → State → Command → ℕ
+refused2 rest s c = refusedBy (above63 (c .t) || above63 (c .a)) (isOf pointKind s (c .a) || isOf directionKind s (c .a)) rest
+
 pub record DirectionCommands : Type 0 where
-  -- "Refusal 7 in command 2 is given exactly for three zeros"
-  pub refused-2 :
-      SoundRefusedBy 2 (λ s c.
-      refusedBy (above63 (c .t) || above63 (c .a)) (isOf pointKind s (c .a) || isOf directionKind s (c .a)) (unlessDirected (not (threeZeros (vectorAt s (c .a))))))
+  -- "Refusal 7 in command 2 is given exactly for three zeros": a row that commands have made is finite
+  pub refused-2 : RowsRefusedBy 2 (λ s c. refused2 (unlessDirected (hasDirection (vectorAt s (c .a)))) s c)
+  pub zeros-2 : SoundRefusedBy 2 (λ s c. refused2 (unlessDirected (not (threeZeros (vectorAt s (c .a))))) s c)
   -- "in 22 to 24 for those or a number not finite"
   pub refused-22 :
-      SoundRefusedBy 22 (λ s c.
+      RowsRefusedBy 22 (λ s c.
       refusedBy (above63 (c .t) || above63 (c .a) || above63 (c .b)) (isOf directionKind s (c .a) && isOf directionKind s (c .b)) (unlessDirected (hasDirection (reflected s c))))
   pub refused-23 :
-      SoundRefusedBy 23 (λ s c.
+      RowsRefusedBy 23 (λ s c.
       refusedBy (above63 (c .t) || above63 (c .a) || above63 (c .b)) (isOf directionKind s (c .a) && isOf directionKind s (c .b))
       (cond (unfitRatio (ofBits binary32 (c .u))) valueOutside (cond (lt (k23 s c) zer) allReflected (unlessDirected (hasDirection (refracted s c))))))
   pub refused-24 :
-      SoundRefusedBy 24 (λ s c.
+      RowsRefusedBy 24 (λ s c.
       refusedBy (above63 (c .t) || above63 (c .a) || eqb (c .t) 63) (isOf directionKind s (c .a)) (unlessDirected (hasDirection (firstOf24 s c) && hasDirection (secondOf24 s c))))
   -- "What the sheet's directions are set against is the Rust function on the scaled vector": in any state
   pub does-2 : Does 2 (λ s c. writing s c (normalized (scaled (vectorAt s (c .a)))))
