@@ -2,7 +2,7 @@
 use Prim.Native.Nat.{ℕ, _≤_}
 use mathlib.Core.Path.{_≡_, refl, ap, ap₂, _∙_, subst}
 use mathlib.Core.Bool.{Bool, true, false, cond, not, _&&_, _||_}
-use lib.Dec.{T, eqb, lit≤}
+use lib.Dec.{eqb, lit≤}
 use lib.Ieee.{binary32, ofBits, lt, le}
 use lib.Ieee.Scale.{finite}
 use lib.Ieee.Bits.{ofBits-fits, is-true}

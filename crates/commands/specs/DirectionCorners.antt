@@ -1,6 +1,6 @@
 -- Corners of directions (document 02, f), run on the reference model. Values are bits.
 use mathlib.Core.Path.{_≡_, refl}
-use mathlib.Core.List.{List, [], _∷_, _++_}
+use mathlib.Core.List.{[], _∷_}
 use Prim.Native.Nat.{ℕ}
 use lib.Ieee as Ieee
 use Rattle.laws.specs.Exact as Exact
@@ -14,7 +14,6 @@ use Rattle.vector.specs.Comparisons as Comparisons
 use Rattle.vector.specs.Normalizing as Normalizing
 use Rattle.vector.specs.Scaled as Scaled
 use Rattle.vector.specs.DirectionOf as DirectionOf
-use Rattle.commands.specs.declared.command.Command.{Command}
 use Rattle.commands.specs.Rows as Rows
 use Rattle.commands.specs.Fields as Fields
 use Rattle.commands.specs.Commands as Commands

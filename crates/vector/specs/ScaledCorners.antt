@@ -8,7 +8,7 @@ use Rattle.laws.specs.WholeRoot.{wholeRoot}
 use Rattle.scalar.specs.Root.{root, rootUnits}
 use Rattle.scalar.specs.Powers.{timesPower}
 use Rattle.vector.specs.declared.vec3.normalizing.Normalized.the-variants.{Unit, Nothing}
-use Rattle.vector.specs.Vectors.{vec, zer, one, X, ZERO}
+use Rattle.vector.specs.Vectors.{vec, zer, one, X}
 use Rattle.vector.specs.Operators.{mulNumber}
 use Rattle.vector.specs.Comparisons.{isFinite}
 use Rattle.vector.specs.Products.{dot, length, lengthRecip}

@@ -1,7 +1,7 @@
--- A finite float is no NaN; a finite sum or difference has finite terms, and a finite square a finite root. Assumes nothing.
+-- A finite float is no NaN; a finite sum or difference has finite terms, a finite square has a finite root, and what lies between two finite numbers is finite. Assumes nothing.
 use mathlib.Core.Bool.{Bool, true, false, not}
 use lib.Dec.{T}
-use lib.Ieee.{Float, nan, inf, fin, Format, add, sub, neg, mul, isNan}
+use lib.Ieee.{Float, nan, inf, fin, Format, add, sub, neg, mul, isNan, lt, eq, le}
 use lib.Ieee.Scale.{finite}
 
 pub finite-number : (x : Float) → T (finite x) → T (not (isNan x))
@@ -45,3 +45,15 @@ module _ (f : Format) where
   root-finite nan t = t
   root-finite (inf a) t = t
   root-finite (fin a m e) t = tt
+
+-- a number between two that are finite
+pub between-finite : (x lo hi : Float) → T (finite lo) → T (finite hi) → T (le lo x) → T (le x hi) → T (finite x)
+unfolding le lt eq
+between-finite x nan hi f g h k = absurd f
+between-finite x (inf s) hi f g h k = absurd f
+between-finite x (fin s m e) nan f g h k = absurd g
+between-finite x (fin s m e) (inf t) f g h k = absurd g
+between-finite nan (fin s m e) (fin t n d) f g h k = absurd h
+between-finite (inf true) (fin s m e) (fin t n d) f g h k = absurd h
+between-finite (inf false) (fin s m e) (fin t n d) f g h k = absurd k
+between-finite (fin r q i) (fin s m e) (fin t n d) f g h k = tt

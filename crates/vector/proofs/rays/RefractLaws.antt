@@ -12,6 +12,7 @@ use lib.Ieee.Bits.{is-true}
 use lib.Ieee.Scale.{finite}
 use Rattle.laws.specs.Exact.{negative, sizeIn}
 use Rattle.laws.proofs.values.ValueLaws.{Value, value-finite}
+use Rattle.laws.proofs.values.FiniteLaws.{between-finite}
 use Rattle.laws.proofs.values.SizeLaws.{value-of-size}
 use Rattle.laws.proofs.values.ValueOrderLaws.{le-sizes, not-below-zero, above-zero}
 use Rattle.vector.specs.declared.vec3.Vec3.{Vec3}
@@ -31,20 +32,19 @@ zero-is : Value binary32 zer false 0
 unfolding ofBits
 zero-is = (refl, refl)
 
-quarter-is : Value binary32 (ofBits binary32 0x3e800000) false (2 ^ 147)
+abbrev quarter : Float
+quarter = ofBits binary32 0x3e800000
+
+abbrev four : Float
+four = ofBits binary32 0x40800000
+
+quarter-is : Value binary32 quarter false (2 ^ 147)
 unfolding ofBits
 quarter-is = (refl, refl)
 
-four-is : Value binary32 (ofBits binary32 0x40800000) false (4 * D)
+four-is : Value binary32 four false (4 * D)
 unfolding ofBits
 four-is = (refl, refl)
-
-between-finite : (u : Float) → T (le (ofBits binary32 0x3e800000) u) → T (le u (ofBits binary32 0x40800000)) → T (finite u)
-unfolding le lt eq ofBits
-between-finite nan l h = absurd h
-between-finite (inf true) l h = absurd l
-between-finite (inf false) l h = absurd h
-between-finite (fin s m e) l h = tt
 
 -- ---- a finite number that is not below zero is zero or more
 pub zero-le : (x : Float) → T (finite x) → lt x zer ≡ false → T (le zer x)
@@ -78,7 +78,9 @@ module _ (a b : Vec3) (u : Float) (da : Direction a) (db : Direction b) (fit : T
 
   u-finite : Value binary32 u (negative u) H
   unfolding H
-  u-finite = value-of-size binary32 u fit (between-finite u low high)
+  u-finite =
+      value-of-size binary32 u fit
+      (between-finite u quarter four (value-finite quarter false (2 ^ 147) D quarter-is) (value-finite four false (4 * D) D four-is) low high)
 
   u-is : Value binary32 u false H
   u-is = subst (λ (s : Bool). Value binary32 u s H) (above-zero u (ofBits binary32 0x3e800000) (negative u) H (2 ^ 147) D (pow-pos 149) (pow-pos 147) quarter-is u-finite low) u-finite

@@ -1,6 +1,6 @@
 -- Scaling leaves three zeros, and what is not finite, without a direction: "direction of" is `try_normalize` of the scaled vector in every case. Assumes nothing.
 use mathlib.Core.Path.{_≡_, refl, sym, _∙_, subst}
-use mathlib.Core.Bool.{Bool, true, false, not, cond, _&&_}
+use mathlib.Core.Bool.{Bool, true, false, cond}
 use Prim.Native.Nat.{ℕ, zero, suc, _+_, _*_, _^_, _<_}
 use native.Mathlib.Nat.{lt-irrefl, zero-mul, zero-lt-suc, mul-pos}
 use native.Mathlib.Omega.{arith}
@@ -8,7 +8,7 @@ use lib.Dec.{T, lit≤, lit<}
 use lib.Pow.{pow-pos}
 use lib.Ieee.{Float, nan, inf, fin, binary32, down, size, fits}
 use lib.Ieee.Exact.{round-exact}
-use lib.Ieee.Fits.{up-pos, and-i}
+use lib.Ieee.Fits.{up-pos}
 use lib.Ieee.Scale.{finite, round-same}
 use Rattle.laws.specs.Exact.{negative, sizeIn}
 use Rattle.laws.proofs.values.ValueLaws.{Value}
@@ -25,13 +25,13 @@ use Rattle.vector.specs.Normalizing.{tryNormalize}
 use Rattle.vector.specs.NormalizingMeaning.{zeroInfiniteOrNan}
 use Rattle.vector.specs.ExactVectors.{F32Vec, FiniteVec}
 use Rattle.vector.specs.Scaled.{largest, scaled}
-use Rattle.vector.specs.DirectionOf.{threeZeros, hasDirection, directionOf}
+use Rattle.vector.specs.DirectionOf.{hasDirection, directionOf}
 use Rattle.vector.proofs.values.SignedVectors.{D}
 use Rattle.vector.proofs.errors.SquaredLengthErrors.{components-finite}
 use Rattle.vector.proofs.meanings.NormalizingLaws.{none-exactly}
 use Rattle.vector.proofs.scaling.ScaledBits.{finite-all, all-finite}
 use Rattle.vector.proofs.scaling.BoundedSquares.{whole-value}
-use Rattle.vector.proofs.scaling.ThreeZeros.{direction-there, largest-of-zeros}
+use Rattle.vector.proofs.scaling.ThreeZeros.{direction-there}
 
 -- ---- what is not finite, and what is zero
 infinite-none : (x : Float) → (T (finite x) → ⊥) → T (zeroInfiniteOrNan x)

@@ -1,20 +1,21 @@
 -- U: a finite vector with a component that is not zero, scaled, has a largest size of at least 1 and below 2, and so a direction, whose exact squared length is within
 -- 15 times 2^-24 of 1. Assumes nothing.
 use mathlib.Core.Path.{_≡_, refl, sym, ap, _∙_, subst}
-use mathlib.Core.Bool.{Bool, true, false, cond}
+use mathlib.Core.Bool.{Bool, false, cond}
 use mathlib.Core.Logic.{_⊎_, inl, inr}
-use Prim.Native.Nat.{ℕ, suc, _*_, _^_, _≤_, _<_}
-use native.Mathlib.Nat.{le-trans, le-of-eq, lt-of-lt-of-le, lt-of-le-of-lt, mul-comm, mul-le-mul-right, mul-lt-mul-of-pos-right, lt-of-mul-lt-mul-right, le-of-mul-le-mul-right, pow-suc}
+use Prim.Native.Nat.{ℕ, _*_, _^_, _≤_, _<_}
+use native.Mathlib.Nat.{le-trans, le-of-eq, lt-of-lt-of-le, lt-of-le-of-lt, mul-comm, mul-le-mul-right, mul-lt-mul-of-pos-right, lt-of-mul-lt-mul-right, le-of-mul-le-mul-right}
 use native.Mathlib.Omega.{arith}
 use lib.Dec.{T, lit≤}
 use lib.Pow.{pow-pos}
-use lib.Ieee.{Float, nan, inf, fin, binary32, fits, ofBits, lt, eq, le}
+use lib.Ieee.{Float, binary32, fits, ofBits, le}
 use lib.Ieee.Bits.{is-true}
 use lib.Ieee.Scale.{finite}
 use Rattle.laws.specs.Exact.{negative, sizeIn}
 use Rattle.laws.proofs.values.ValueLaws.{Value, value-finite}
 use Rattle.laws.proofs.values.SizeLaws.{size-of-value, unsigned-value}
 use Rattle.laws.proofs.rounding.ErrorLaws.{rounded}
+use Rattle.laws.proofs.values.FiniteLaws.{between-finite}
 use Rattle.laws.proofs.values.ValueOrderLaws.{le-of-sizes, le-sizes}
 use Rattle.scalar.specs.Powers.{timesPower, larger, log2}
 use Rattle.scalar.proofs.scaling.SizeBitsLaws.{larger-by}
@@ -40,14 +41,6 @@ use Rattle.vector.proofs.errors.SquaredLengthLaws.{squared-fits, square
 thirteen-is : Value binary32 thirteen false (13 * D)
 unfolding ofBits
 thirteen-is = (refl, refl)
-
--- between two numbers a number is finite
-at-most-finite : (l : Float) → T (le l thirteen) → T (le one l) → T (finite l)
-unfolding le lt eq ofBits
-at-most-finite nan h k = absurd h
-at-most-finite (inf true) h k = absurd k
-at-most-finite (inf false) h k = absurd h
-at-most-finite (fin s m e) h k = tt
 
 module _ (a : Vec3) (v : F32Vec a) (n : FiniteVec a) (some : 0 < largest a) where
   abbrev X : ℕ
@@ -227,7 +220,7 @@ unfolding directionOf
 law-u a v h =
     let b = law-scaled a v h in
     let l = lengthSquared (scaled a) in
-    let number = at-most-finite l (b .squared-most) (b .squared-least) in
+    let number = between-finite l one thirteen (value-finite one false D D one-is) (value-finite thirteen false (13 * D) D thirteen-is) (b .squared-least) (b .squared-most) in
     let enough = one-size l number (squared-sign (scaled a)) (squared-fits (scaled a)) (b .squared-least) in
     record {
       direction = unitOf (scaled a);

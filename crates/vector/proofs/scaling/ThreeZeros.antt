@@ -1,7 +1,7 @@
 -- Three zeros are the vectors whose largest size is 0; and what it takes to have a direction. Assumes nothing.
 use mathlib.Core.Path.{_≡_, sym, _∙_, subst, subst₂}
-use mathlib.Core.Bool.{Bool, true, false, not, _||_, _&&_}
-use Prim.Native.Nat.{ℕ, zero, suc, _+_, _-_, _*_, _^_, _<_}
+use mathlib.Core.Bool.{Bool, true, false, not, _&&_}
+use Prim.Native.Nat.{ℕ, zero, suc, _-_, _*_, _<_}
 use native.Mathlib.Nat.{lt-irrefl, zero-mul, mul-one, mul-pos, zero-lt-suc}
 use native.Mathlib.Omega.{arith}
 use lib.Dec.{T, eqb, eqb→eq}
@@ -9,7 +9,7 @@ use lib.Pow.{pow-pos}
 use lib.Ieee.{Float, nan, inf, fin, binary32, up, down, level, eq, fits, ofBits}
 use lib.Ieee.Fits.{up-pos, and-i, and-l, and-r}
 use lib.Ieee.Scale.{finite}
-use Rattle.laws.specs.Exact.{negative, sizeIn}
+use Rattle.laws.specs.Exact.{sizeIn}
 use Rattle.laws.proofs.values.SizeLaws.{zero-size, value-of-size}
 use Rattle.vector.specs.declared.vec3.Vec3.{Vec3}
 use Rattle.vector.specs.Vectors.{zer}
