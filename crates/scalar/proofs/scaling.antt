@@ -1,3 +1,4 @@
 -- Products with powers of two, and the bits of sizes.
 pub mod PowerLaws
+pub mod PowersMeaningLaws
 pub mod SizeBitsLaws

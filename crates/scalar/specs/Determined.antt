@@ -1,4 +1,5 @@
 -- No meaning of this crate leaves a choice: for any arguments, two answers with the same meaning are the same.
+use Prim.Native.Nat.{ℕ}
 use lib.Ieee.{Float}
 use Rattle.laws.specs.Determines.{Determines}
 use Rattle.scalar.specs.RootMeaning.{NearestRoot}
@@ -6,6 +7,7 @@ use Rattle.scalar.specs.ExactRootMeaning.{Exactness}
 use Rattle.scalar.specs.FusedMeaning.{RoundedOnce}
 use Rattle.scalar.specs.IntegralMeaning.{Truncated, Floored, RoundedEven}
 use Rattle.scalar.specs.RemainderMeaning.{Remainder}
+use Rattle.scalar.specs.PowersMeaning.{PowerProduct}
 
 pub record Determined : Type 0 where
   pub root : (x : Float) → Determines (NearestRoot x)
@@ -15,3 +17,4 @@ pub record Determined : Type 0 where
   pub floor : (x : Float) → Determines (Floored x)
   pub round : (x : Float) → Determines (RoundedEven x)
   pub rem : (a b : Float) → Determines (Remainder a b)
+  pub times-power : (j : ℕ) (x : Float) → Determines (PowerProduct j x)

@@ -14,6 +14,7 @@ pub mod RemainderMeaning
 pub mod Determined
 pub mod Acos
 pub mod Powers
+pub mod PowersMeaning
 pub mod SizeBits
 pub mod Parts
 pub mod Corners

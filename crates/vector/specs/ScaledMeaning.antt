@@ -4,6 +4,7 @@ use Prim.Native.Nat.{_*_, _^_, _≤_, _<_}
 use lib.Dec.{T}
 use lib.Ieee.{Float, binary32, ofBits, le}
 use Rattle.scalar.specs.Powers.{log2}
+use Rattle.scalar.specs.PowersMeaning.{PowerProduct}
 use Rattle.vector.specs.declared.vec3.Vec3.{Vec3}
 use Rattle.vector.specs.Vectors.{one}
 use Rattle.vector.specs.Products.{lengthSquared}
@@ -20,6 +21,10 @@ thirteen = ofBits binary32 0x41500000
 pub record BroughtToOne (a b : Vec3) : Type 0 where
   pub values : F32Vec b
   pub numbers : FiniteVec b
+  -- "each exact product is rounded once"
+  pub rounded-x : PowerProduct (log2 (largest a)) (a .x) (b .x)
+  pub rounded-y : PowerProduct (log2 (largest a)) (a .y) (b .y)
+  pub rounded-z : PowerProduct (log2 (largest a)) (a .z) (b .z)
   -- the j of the power 2^(149-j): 2^j ≤ M < 2^(j+1) for the largest size M
   pub from : 2 ^ log2 (largest a) ≤ largest a
   pub to : largest a < 2 ^ log2 (largest a) * 2

@@ -19,6 +19,7 @@ use Rattle.laws.proofs.values.FiniteLaws.{between-finite}
 use Rattle.laws.proofs.values.ValueOrderLaws.{le-of-sizes, le-sizes}
 use Rattle.scalar.specs.Powers.{timesPower, larger, log2}
 use Rattle.scalar.proofs.scaling.SizeBitsLaws.{larger-by}
+use Rattle.scalar.proofs.scaling.PowersMeaningLaws.{product-means, log2-low, log2-high}
 use Rattle.vector.specs.declared.vec3.Vec3.{Vec3}
 use Rattle.vector.specs.declared.vec3.normalizing.Normalized.the-variants.{Nothing}
 use Rattle.vector.specs.Vectors.{one, each}
@@ -34,7 +35,7 @@ use Rattle.vector.proofs.units.UnitLaws.{unitOf, normalized-is, normali
 use Rattle.vector.proofs.scaling.ScaledBits.{scaled-is}
 use Rattle.vector.proofs.scaling.ScaledComponents.{part-value, part-fits, part-most, part-least, part-exact, part-bound}
 use Rattle.vector.proofs.scaling.BoundedSquares.{whole, whole-least, whole-most, whole-value}
-use Rattle.vector.proofs.scaling.LargestLaws.{one-of, top-of, log2-low, log2-high}
+use Rattle.vector.proofs.scaling.LargestLaws.{one-of, top-of}
 use Rattle.vector.proofs.scaling.ThreeZeros.{direction-numbers, direction-some}
 use Rattle.vector.proofs.errors.SquaredLengthLaws.{squared-fits, squared-sign}
 
@@ -196,6 +197,9 @@ module _ (a : Vec3) (v : F32Vec a) (n : FiniteVec a) (some : 0 < largest a) wher
       finite-y = value-finite (b .y) (negative (a .y)) (S Y) D b-y;
       finite-z = value-finite (b .z) (negative (a .z)) (S Z) D b-z;
     };
+    rounded-x = product-means j (a .x) (v .f32-x) (n .finite-x);
+    rounded-y = product-means j (a .y) (v .f32-y) (n .finite-y);
+    rounded-z = product-means j (a .z) (v .f32-z) (n .finite-z);
     from = lo;
     to = hi;
     exact = exact;
