@@ -105,5 +105,5 @@ determined = record {
   floor = floor-determines;
   round = round-determines;
   rem = rem-determines;
-  times-power = λ j x. rounding-determined binary32 (negative x) (sizeIn binary32 x) (2 ^ j) (pow-pos j);
+  times-power = λ j x. rounding-determined binary32 (negative x) (sizeIn binary32 x) _ (pow-pos _);
 }
