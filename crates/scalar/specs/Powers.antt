@@ -14,7 +14,7 @@ timesPower j (fin s m e) = round binary32 s (m * up e * 2 ^ 149) (down e * 2 ^ j
 unfoldable pub powerOfTwo : ℕ → Float
 powerOfTwo j = round binary32 false (2 ^ 149) (2 ^ j)
 
--- the one j with 2 ^ j ≤ n < 2 ^ (j + 1), a bit less than n has; 0 for 0
+-- the one j with 2 ^ j ≤ n < 2 ^ (j + 1): one less than n has bits; 0 for 0
 abbrev pub log2 : ℕ → ℕ
 log2 n = size n - 1
 

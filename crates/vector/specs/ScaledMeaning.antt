@@ -17,7 +17,7 @@ use Rattle.vector.specs.NumericLaws.{Unscaled}
 abbrev pub thirteen : Float
 thirteen = ofBits binary32 0x41500000
 
--- b is a, "which brings the largest size to at least 1 and below 2"
+-- b is a times "the power of two that brings the largest size to at least 1 and below 2"
 pub record BroughtToOne (a b : Vec3) : Type 0 where
   pub values : F32Vec b
   pub numbers : FiniteVec b

@@ -1,7 +1,7 @@
 // Directions as effects: a command that needs a direction takes it or refuses at that point.
 ghost use mathlib.Core.Path.{_≡_};
 ghost use lib.Ieee.{lt};
-ghost use Rattle.vector.specs.Vectors.{vec, zer};
+ghost use Rattle.vector.specs.Vectors.{zer};
 ghost use Rattle.vector.specs.Optics as Optics;
 ghost use Rattle.commands.specs.Codes as Codes;
 ghost use Rattle.commands.specs.Results as Results;

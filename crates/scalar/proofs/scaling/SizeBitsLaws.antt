@@ -42,7 +42,7 @@ by-zeros (suc b) h =
 module _ (b : ℕ) where
   subnormal-size : b < 8388608 → sizeOfBits b ≡ b
   unfolding sizeOfBits
-  subnormal-size h = ap (λ (t : Bool). cond t b ((b % 8388608 + 8388608) * 2 ^ (b / 8388608 - 1))) (is-true (ltb b 8388608) (lt→ltb b 8388608 h))
+  subnormal-size h = rw (is-true (ltb b 8388608) (lt→ltb b 8388608 h)) refl
 
   normal-size : 8388608 ≤ b → sizeOfBits b ≡ (b % 8388608 + 8388608) * 2 ^ (b / 8388608 - 1)
   unfolding sizeOfBits
