@@ -3,7 +3,7 @@
 use crate::decimal;
 use crate::f32::math;
 use crate::roots::is_exact;
-use crate::sheet::directions::scaled;
+use crate::sheet::directions::{direction_unchecked, scaled};
 use crate::{BVec3, Vec3, Vec4};
 use std::error::Error;
 
@@ -11,7 +11,7 @@ use std::error::Error;
 pub const NAN: u32 = 2143289344;
 
 /// Numbers of functions are below this.
-const NUMBERS: usize = 123;
+const NUMBERS: usize = 124;
 
 /// The most numbers that a function's arguments and its results have.
 pub const MOST_ARGUMENTS: usize = 9;
@@ -353,4 +353,5 @@ table! {
     120 "length_and_exactness" (a: Vec3) -> (f32, bool) = and_exactness(a.length(), a.length_squared());
     121 "distance_and_exactness" (a: Vec3, b: Vec3) -> (f32, bool) = and_exactness(a.distance(b), a.distance_squared(b));
     122 "scaled" (a: Vec3) -> Vec3 = scaled(a);
+    123 "direction_unchecked" (a: Vec3) -> Vec3 = direction_unchecked(a);
 }

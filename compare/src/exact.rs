@@ -43,8 +43,12 @@ impl Whole {
         self.add(x.is_sign_negative() != y.is_sign_negative(), m * n, e + f);
     }
 
+    fn is_negative(&self) -> bool {
+        self.0[LIMBS - 1] >> 63 == 1
+    }
+
     fn size(mut self) -> Size {
-        if self.0[LIMBS - 1] >> 63 == 1 {
+        if self.is_negative() {
             let mut size = Whole::ZERO;
             let mut borrow = false;
             for (limb, from) in size.0.iter_mut().zip(self.0) {
@@ -101,10 +105,20 @@ impl PartialOrd for Size {
 
 /// How far the exact squared length of a vector is from 1.
 pub fn off_one(v: [f32; 3]) -> Size {
+    above_one(v).size()
+}
+
+/// Whether the exact squared length of a vector is below 1.
+pub fn is_short(v: [f32; 3]) -> bool {
+    above_one(v).is_negative()
+}
+
+/// The exact squared length of a vector, less 1.
+fn above_one(v: [f32; 3]) -> Whole {
     let mut sum = Whole::ZERO;
     v.iter().for_each(|&x| sum.add_product(x, x));
     sum.add(true, 1, ONE);
-    sum.size()
+    sum
 }
 
 /// The size of the exact dot product.
@@ -136,5 +150,12 @@ mod tests {
         assert_eq!(Size::power(18).steps(), 64.0);
         assert!(Size::power(18) < Size::power(16) && Size::power(16) < off_one([0.5, 0.0, 0.0]));
         assert!(off_one([1.0, f32::from_bits(1), 0.0]) > Size::default());
+    }
+
+    #[test]
+    fn short_vectors_are_below_one() {
+        let least = f32::from_bits(1);
+        assert!(is_short([0.5, 0.0, -0.5]) && is_short([1f32.next_down(), least, 0.0]));
+        assert!(!is_short([0.0, 0.0, -1.0]) && !is_short([-1.0, least, 0.0]));
     }
 }

@@ -89,7 +89,7 @@ impl Generator {
 /// Arguments for a function. Now and then a bool is above 1 or an index above 2.
 pub fn arguments(d: &mut Draw, function: &Function) -> Vec<u32> {
     match function.number {
-        9..=11 | 16 | 120..=122 if d.once_in(2) => own_arguments(d, function.number),
+        9..=11 | 16 | 120..=123 if d.once_in(2) => own_arguments(d, function.number),
         _ => any_arguments(d, function),
     }
 }
@@ -101,7 +101,7 @@ fn own_arguments(d: &mut Draw, number: u32) -> Vec<u32> {
         16 => vec![for_root(d)],
         120 => for_length(d).to_vec(),
         121 => for_distance(d).concat(),
-        122 => arrow(d).to_vec(),
+        122 | 123 => arrow(d).to_vec(),
         _ => far_apart(d).to_vec(),
     }
 }
@@ -186,7 +186,7 @@ fn spoiled(d: &mut Draw, line: &[u8]) -> Vec<u8> {
         _ => {
             let blank = line.iter().position(|&byte| byte == b' ').unwrap_or(line.len());
             let any = d.word();
-            let number = d.one_of(&[0, 17, 29, 37, 39, 123, 257, 65537, u32::MAX, any]);
+            let number = d.one_of(&[0, 17, 29, 37, 39, 124, 257, 65537, u32::MAX, any]);
             line.splice(..blank, number.to_string().into_bytes());
         }
     }

@@ -39,7 +39,7 @@ pub fn can_have(row: usize, outcome: usize) -> bool {
         4 => used.is_some_and(|used| used.a.is_used()),
         5 => used.is_some_and(|used| used.values > 0),
         8 => row == 23,
-        // reflected and refracted directions and pairs always have a direction (laws M, R and P of crates/vector)
+        // what 22 to 24 make a direction of always has one (laws M, R and P of crates/vector), and they do not ask
         7 => matches!(row, 2 | 11 | 12 | 28),
         12 => row == 36,
         // smaller, larger and whole numbers and components of finite ones are finite

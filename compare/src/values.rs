@@ -52,7 +52,7 @@ impl Draw {
     }
 
     /// A number from -1 to 1.
-    fn unit(&mut self) -> f64 {
+    pub fn unit(&mut self) -> f64 {
         f64::from(self.word() as i32) / 2f64.powi(31)
     }
 }
@@ -198,7 +198,7 @@ pub fn related(d: &mut Draw, before: &[u32]) -> u32 {
 }
 
 /// A direction, with components of one size or of very different sizes.
-fn direction(d: &mut Draw) -> [f64; 3] {
+pub fn direction(d: &mut Draw) -> [f64; 3] {
     let mut v = [0.0; 3];
     for c in &mut v {
         *c = match d.below(8) {

@@ -3,6 +3,8 @@
 mod scaling;
 
 use compare::arrows::{arrow, LEAST, MOST};
+use compare::calls::{find, NAN};
+use compare::generate::arguments;
 use compare::sheet::{Command, Sheet};
 use compare::sitting::Sitting;
 use compare::tally::Tally;
@@ -85,6 +87,35 @@ fn whole_numbers_scale_as_f64_does() {
             assert!((product - by_whole).abs() <= 2f64.powi(-150), "{x:e} {exponent}");
         }
     }
+}
+
+/// Function 123 is the direction of a vector that has one; of the others it is what the product is, with a NaN in it.
+#[test]
+fn the_unchecked_direction() {
+    let unchecked = find(123).expect("it is one of the functions");
+    let call = |v: Vector| {
+        let [x, y, z, ..] = (unchecked.call)(&v.map(f32::to_bits));
+        [x, y, z]
+    };
+    let mut draw = Draw::new(4);
+    let mut without = 0;
+    for _ in 0..VECTORS {
+        let v = arguments(&mut draw, unchecked);
+        let v = bits([v[0], v[1], v[2]]);
+        let finite = v.iter().all(|x| x.is_finite());
+        match if finite { direction_of(v) } else { Err(7) } {
+            Ok(right) => assert_eq!(call(v), right, "{v:?}"),
+            Err(_) => {
+                without += 1;
+                assert!(call(v).contains(&NAN), "{v:?}");
+            }
+        }
+    }
+    assert!((VECTORS / 50..VECTORS / 2).contains(&without), "{without} without a direction");
+    assert_eq!(call([0.0, -0.0, 0.0]), [NAN; 3]);
+    assert_eq!(call([f32::INFINITY, -2.0, 0.0]), [NAN, 1 << 31, 0]);
+    assert_eq!(call([f32::NAN, 1.0, 0.0]), [NAN; 3]);
+    assert_eq!(call([f32::NAN, f32::NEG_INFINITY, 0.0]), [NAN; 3]);
 }
 
 #[test]

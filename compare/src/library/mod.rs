@@ -5,6 +5,7 @@ mod calls;
 pub mod kept;
 mod lent;
 pub mod lists;
+pub mod rays;
 
 /// The numbers of a command and of an answer.
 pub const COMMAND: usize = 7;

@@ -65,8 +65,7 @@ pub enum Refusal {
     Value = 5,
     /// A point, a number or an offset not finite.
     Result = 6,
-    /// No direction: in 2 of three zeros, in 22 to 24 of those or of a number not finite; in 11 and 12 with b a point 1/(b·b) not finite; in 28
-    /// a `length_squared` of zero.
+    /// In 2 three zeros, which have no direction; in 11 and 12 with b a point 1/(b·b) not finite; in 28 a `length_squared` of zero.
     Direction = 7,
     /// In 23 `refract`'s k below zero.
     Reflection = 8,

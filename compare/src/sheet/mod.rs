@@ -1,6 +1,6 @@
 //! Document 01's plain sheet, written from the document over the Rust's own functions: rows, commands, answers, one step. As document 02
-//! has it, the sheet takes steps back (request a), says which lengths and distances are exact roots (request c), has planes (request d), and
-//! gives short and long arrows directions too (request f).
+//! has it, the sheet takes steps back (request a), says which lengths and distances are exact roots (request c), has planes (request d), gives
+//! short and long arrows directions too (request f), and does not ask in 22 to 24 whether there is a direction (request g).
 
 mod answer;
 pub mod directions;
@@ -14,6 +14,7 @@ mod work;
 pub use answer::{Answer, Refusal, EXACT_ROOT};
 pub use fields::{changes, used, Source, Used, COMMANDS, TAKE_BACK};
 pub use history::REMEMBERED;
+pub(crate) use work::refract_k;
 
 use crate::Vec3;
 use history::{History, Step};

@@ -1,6 +1,6 @@
 //! What each command of the plain sheet works out, with the refusals 8, 7, 12 and 6.
 
-use super::directions::direction_of;
+use super::directions::{direction_of, sure_direction};
 use super::planes::{meeting, offset, over};
 use super::{Kind, Refusal, Row};
 use crate::roots::is_exact;
@@ -55,12 +55,12 @@ pub fn work(number: u32, [row_a, row_b, named]: &[Row; 3], [u, v, w]: [f32; 3]) 
         19 => point(a.div_euclid(b)),
         20 => point(a.rem_euclid(b)),
         21 => point(a.any_orthogonal_vector()),
-        22 => Ok(Effect::Direction(direction_of(a.reflect(b))?)),
+        22 => Ok(Effect::Direction(sure_direction(a.reflect(b)))),
         23 if refract_k(a, b, u) < 0.0 => Err(Refusal::Reflection),
-        23 => Ok(Effect::Direction(direction_of(a.refract(b, u))?)),
+        23 => Ok(Effect::Direction(sure_direction(a.refract(b, u)))),
         24 => {
             let (first, second) = a.any_orthonormal_pair();
-            Ok(Effect::Pair(direction_of(first)?, direction_of(second)?))
+            Ok(Effect::Pair(sure_direction(first), sure_direction(second)))
         }
         25 => measure(a.dot(b)),
         26 => root(a.length(), a.length_squared()),
@@ -126,7 +126,7 @@ fn divisor(b: Vec3) -> Result<Vec3, Refusal> {
 }
 
 /// The k that `refract` works out.
-fn refract_k(incident: Vec3, normal: Vec3, eta: f32) -> f32 {
+pub fn refract_k(incident: Vec3, normal: Vec3, eta: f32) -> f32 {
     let dot = normal.dot(incident);
     1.0 - eta * eta * (1.0 - dot * dot)
 }

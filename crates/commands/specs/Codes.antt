@@ -68,7 +68,7 @@ valueOutside = 5
 abbrev pub resultInfinite : ℕ
 resultInfinite = 6
 
--- "7, in 2 and 22 to 24 no direction; in 11 and 12 with b a point, 1/(b·b) not finite; in 28 a `length_squared` of zero"
+-- "7, in 2 .. no direction; in 11 and 12 with b a point, 1/(b·b) not finite; in 28 a `length_squared` of zero"
 abbrev pub directionMissing : ℕ
 directionMissing = 7
 

@@ -16,12 +16,13 @@ use Rattle.vector.specs.Projections.{projectOnto, rejectFrom, projectOntoNormal
 use Rattle.vector.specs.LengthClamps.{clampLength}
 use Rattle.vector.specs.Interpolation.{lerp, moveTowards, midpoint, mulAdd}
 use Rattle.vector.specs.Rounding.{trunc, floor, round, divEuclid, remEuclid}
+use Rattle.vector.specs.DirectionOf.{directionUnchecked}
 use Rattle.vector.specs.Optics.{reflect, refract, angleBetween}
 use Rattle.vector.specs.Orthogonal.{anyOrthogonalVector, anyOrthonormalPair}
 use Rattle.vector.specs.Asserts.{assertsClampLength, assertsProjectOnto, assertsRejectFrom, assertsProjectOntoNormalized, assertsRejectFromNormalized, assertsReflect, assertsRefract, assertsAngleBetween, assertsAnyOrthonormalPair}
 use Rattle.commands.specs.Fields.{Vectors, Points, Directions, Planes, Filled, Uses, usesNone, usesT, usesTUVW, usesTA, usesTAU, usesTAUV, usesTAB, usesTABU, usesTABUVW, usesTABRow, usesA, usesAB, Sources}
 use Rattle.commands.specs.Planes.{offsetThrough, height, meeting}
-use Rattle.commands.specs.Results.{Result, Empties, Point, Aim, Aims, Plane, Number, Root, Whole, Shows, Undoes, isDirection}
+use Rattle.commands.specs.Results.{Result, Empties, Point, Aim, Directed, DirectedPair, Plane, Number, Root, Whole, Shows, Undoes, isDirection}
 
 -- a row of the table
 pub record Entry : Type 0 where
@@ -90,11 +91,11 @@ table =
     ∷ entry (usesTAB Vectors Vectors) (ofAB Point divEuclid)
     ∷ entry (usesTAB Vectors Vectors) (ofAB Point remEuclid)
     ∷ entry (usesTA Vectors) (ofA Point anyOrthogonalVector)
-    -- 22: direction of `reflect`(a, b); 23: direction of `refract`(a, b, u)
-    ∷ asserting (usesTAB Directions Directions) (ofAB Aim reflect) (λ (s : Sources). assertsReflect (s .a .numbers) (s .b .numbers))
-    ∷ asserting (usesTABU Directions Directions) (ofABU Aim refract) (λ (s : Sources). assertsRefract (s .a .numbers) (s .b .numbers))
-    -- 24: directions of the two vectors of `any_orthonormal_pair`(a), into t and t+1
-    ∷ asserting (usesTA Directions) (λ (s : Sources). Aims (anyOrthonormalPair (s .a .numbers) .first) (anyOrthonormalPair (s .a .numbers) .second)) (λ (s : Sources). assertsAnyOrthonormalPair (s .a .numbers))
+    -- 22: direction of `reflect`(a, b); 23: direction of `refract`(a, b, u); both without a test (document 02, g)
+    ∷ asserting (usesTAB Directions Directions) (ofAB Directed (λ (a b : Vec3). directionUnchecked (reflect a b))) (λ (s : Sources). assertsReflect (s .a .numbers) (s .b .numbers))
+    ∷ asserting (usesTABU Directions Directions) (ofABU Directed (λ (a b : Vec3) (u : Float). directionUnchecked (refract a b u))) (λ (s : Sources). assertsRefract (s .a .numbers) (s .b .numbers))
+    -- 24: directions of the two vectors of `any_orthonormal_pair`(a), into t and t+1, likewise
+    ∷ asserting (usesTA Directions) (λ (s : Sources). let p = anyOrthonormalPair (s .a .numbers) in DirectedPair (directionUnchecked (p .first)) (directionUnchecked (p .second))) (λ (s : Sources). assertsAnyOrthonormalPair (s .a .numbers))
     -- 25: `dot`; 26: `length` of a; 27: `distance`, both with the mark of their root; 28: `angle_between`
     ∷ entry (usesAB Vectors Vectors) (ofAB Number dot)
     ∷ entry (usesA Vectors) (ofA Root lengthAndExactness)

@@ -117,7 +117,7 @@ pub record Corners : Type 0 where
   angle-plain : lastOf (answersTo (listing ++ (command 28 0 0 0 0 0 0 ∷ []))) ≡ answer 0 0 3 0 0 0
 
 pub corners : Corners
-unfolding Model.runBy Model.stepOf Model.applied Model.remembering Model.restored Effects.effectOf Effects.directionIn Effects.unlessRefused Effects.commandEffect Rows.fresh Rows.rowAt Rows.withRow Commands.table Commands.entryAt Fields.allows DirectionOf.directionOf DirectionOf.threeZeros Scaled.scaled Powers.timesPower Ieee.size Refusals.unknown Refusals.noRow Refusals.nothingRemembered Refusals.badSource Refusals.outOfOrder Refusals.outOfRange Refusals.badValue Refusals.noRefraction Refusals.isNothing Refusals.lacksDirection Refusals.noFactor Refusals.noDirection Refusals.noMeeting Refusals.notFinite Refusals.first Refusals.early Refusals.late Refusals.refusals Refusals.refusalOf Comparisons.isFinite Normalizing.tryNormalize Normalizing.usable Products.length Products.lengthAndExactness Products.distanceAndExactness Products.lengthSquared Products.lengthRecip Products.dot Operators.mulNumber Operators.numberMul Operators.sub Optics.refract Optics.refractK Optics.angleBetween Acos.acosApprox Orthogonal.anyOrthonormalPair Sign.signum Sign.copysign Sign.abs ExactRoot.exactRoot ExactRoot.rootAndExactness Root.root Root.rootUnits WholeRoot.wholeRoot Exact.sizeIn Exact.negative Ieee.round Ieee.neg Ieee.div Ieee.sub Ieee.le Ieee.lt Ieee.eq Ieee.add Ieee.sum Ieee.mul Ieee.ofBits Ieee.toBits
+unfolding Model.runBy Model.stepOf Model.applied Model.remembering Model.restored Effects.effectOf Effects.directionIn Effects.unlessRefused Effects.commandEffect Rows.fresh Rows.rowAt Rows.withRow Commands.table Commands.entryAt Fields.allows DirectionOf.directionOf DirectionOf.directionUnchecked DirectionOf.threeZeros Scaled.scaled Powers.timesPower Ieee.size Refusals.unknown Refusals.noRow Refusals.nothingRemembered Refusals.badSource Refusals.outOfOrder Refusals.outOfRange Refusals.badValue Refusals.noRefraction Refusals.isNothing Refusals.lacksDirection Refusals.noFactor Refusals.noDirection Refusals.noMeeting Refusals.notFinite Refusals.first Refusals.early Refusals.late Refusals.refusals Refusals.refusalOf Comparisons.isFinite Normalizing.tryNormalize Normalizing.usable Products.length Products.lengthAndExactness Products.distanceAndExactness Products.lengthSquared Products.lengthRecip Products.dot Operators.mulNumber Operators.numberMul Operators.sub Optics.refract Optics.refractK Optics.angleBetween Acos.acosApprox Orthogonal.anyOrthonormalPair Sign.signum Sign.copysign Sign.abs ExactRoot.exactRoot ExactRoot.rootAndExactness Root.root Root.rootUnits WholeRoot.wholeRoot Exact.sizeIn Exact.negative Ieee.round Ieee.neg Ieee.div Ieee.sub Ieee.le Ieee.lt Ieee.eq Ieee.add Ieee.sum Ieee.mul Ieee.ofBits Ieee.toBits
 corners = record {
   scalars = Scalars.corners;
   vectors = Vectors.corners;

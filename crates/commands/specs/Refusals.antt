@@ -13,13 +13,14 @@ use Rattle.vector.specs.Comparisons.{isFinite}
 use Rattle.vector.specs.Projections.{otherLenSqRcp}
 use Rattle.vector.specs.Optics.{refractK}
 use Rattle.vector.specs.DirectionOf.{directionOf}
+use Rattle.vector.specs.NumericLaws.{quarter, four}
 use Rattle.vector.specs.AssertLaws.{zeroLength}
 use Rattle.commands.specs.declared.command.Command.{Command}
 use Rattle.commands.specs.Codes.{last, undo, pointKind, unknownCommand, rowOutside, unfitSource, valueOutside, resultInfinite, directionMissing, allReflected, historyEmpty, lineParallel}
 use Rattle.commands.specs.Rows.{ModelRow}
 use Rattle.commands.specs.Fields.{isUsed, allows, Sources}
 use Rattle.commands.specs.Planes.{isParallel}
-use Rattle.commands.specs.Results.{Result, Empties, Point, Aim, Aims, Plane, Number, Root, Whole, Shows, Undoes}
+use Rattle.commands.specs.Results.{Result, Empties, Point, Aim, Directed, DirectedPair, Plane, Number, Root, Whole, Shows, Undoes}
 use Rattle.commands.specs.Commands.{entryAt}
 
 -- "2, command above 32"; "refusal 2 begins above the highest command in use"
@@ -47,13 +48,6 @@ badSource n kindA kindB kindRow =
     let uses = entryAt n .uses in
     not (allows (uses .a) kindA) || not (allows (uses .b) kindB) || not (allows (uses .row) kindRow)
 
--- 0.25 and 4
-abbrev pub quarter : Float
-quarter = ofBits binary32 0x3e800000
-
-abbrev pub four : Float
-four = ofBits binary32 0x40800000
-
 -- "5, a used value not finite, or in 10 not 0 ≤ u ≤ v, or in 23 u outside 0.25 to 4"
 unfoldable pub outOfOrder : ℕ → Float → Float → Bool
 outOfOrder n u v = eqb n 10 && not (le zer u && le u v)
@@ -70,14 +64,15 @@ badValue n u v w =
 unfoldable pub noRefraction : ℕ → Sources → Bool
 noRefraction n s = eqb n 23 && lt (refractK (s .a .numbers) (s .b .numbers) (s .u)) zer
 
--- "7, in 2 and 22 to 24 no direction; in 11 and 12 with b a point, 1/(b·b) not finite; in 28 a `length_squared` of zero"
+-- "7, in 2 .. no direction; in 11 and 12 with b a point, 1/(b·b) not finite; in 28 a `length_squared` of zero"; from 22 to 24 "7 is struck" (document 02, g)
 unfoldable pub isNothing : Normalized → Bool
 isNothing (Unit v) = false
 isNothing Nothing = true
 
 unfoldable pub lacksDirection : Result → Bool
 lacksDirection (Aim v) = isNothing (directionOf v)
-lacksDirection (Aims v w) = isNothing (directionOf v) || isNothing (directionOf w)
+lacksDirection (Directed v) = false
+lacksDirection (DirectedPair v w) = false
 lacksDirection (Plane n o) = false
 lacksDirection Empties = false
 lacksDirection (Point v) = false
@@ -107,7 +102,8 @@ notFinite (Number x) = not (finite x)
 notFinite (Root r) = not (finite (r .root))
 notFinite Empties = false
 notFinite (Aim v) = false
-notFinite (Aims v w) = false
+notFinite (Directed v) = false
+notFinite (DirectedPair v w) = false
 notFinite (Plane n o) = not (finite o)
 notFinite (Whole n) = false
 notFinite (Shows i r) = false

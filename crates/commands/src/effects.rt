@@ -15,8 +15,9 @@ ghost use Rattle.commands.specs.Effects.{effectBy, settled, lateEffect, 
 use crate::codes::EMPTY;
 use crate::command::Answer;
 use crate::command::Command;
+use crate::effects::directions::directed;
+use crate::effects::directions::directed_pair;
 use crate::effects::directions::direction;
-use crate::effects::directions::directions;
 use crate::effects::directions::refracted;
 use crate::effects::planes::height;
 use crate::effects::planes::meeting;
@@ -111,9 +112,9 @@ pub(crate) fn late_effect(c: Command, a: Row, b: Row, p: StoredRow) -> Effect
         19 => point(a.v.div_euclid(b.v)),
         20 => point(a.v.rem_euclid(b.v)),
         21 => point(a.v.any_orthogonal_vector()),
-        22 => direction(a.v.reflect(b.v)),
+        22 => directed(a.v.reflect(b.v)),
         23 => refracted(a.v, b.v, from_bits(c.u)),
-        24 => directions(a.v.any_orthonormal_pair()),
+        24 => directed_pair(a.v.any_orthonormal_pair()),
         25 => number(a.v.dot(b.v)),
         26 => root(a.v.length_and_exactness()),
         27 => root(a.v.distance_and_exactness(b.v)),

@@ -50,8 +50,5 @@ pub fn log2_of_bits(b: u32) -> u32
     if b >= 0x80_0000 {
         return b / 0x80_0000 + 22; // SizeBitsLaws.log2-normal
     }
-    if b == 0 {
-        return 0;
-    }
-    31 - u32::leading_zeros(b) // SizeBitsLaws.log2-subnormal
+    31 - u32::leading_zeros(higher(b, 1)) // SizeBitsLaws.log2-subnormal
 }

@@ -6,3 +6,4 @@ pub mod RefractNumbers
 pub mod RefractComponents
 pub mod RefractRoundings
 pub mod RefractLaws
+pub mod NeverZeroLaws

@@ -6,3 +6,4 @@ pub mod ScaledComponents
 pub mod BoundedSquares
 pub mod ScaledLaws
 pub mod NoDirectionLaws
+pub mod UncheckedLaws

@@ -26,6 +26,7 @@ pub mod Scaled
 pub mod DirectionOf
 pub mod NumericLaws
 pub mod ScaledMeaning
+pub mod NeverZero
 pub mod LongerParts
 pub mod ExactLengths
 pub mod ScaledCorners

@@ -76,8 +76,14 @@ pub record Refused7Never (r : Vec3) : Type 0 where
 abbrev pub LawM : Type 0
 LawM = (a b : Vec3) → Direction a → Direction b → Refused7Never (reflect a b)
 
+-- 0.25 and 4
+abbrev pub quarter : Float
+quarter = ofBits binary32 0x3e800000
+
+abbrev pub four : Float
+four = ofBits binary32 0x40800000
+
 -- R: so has a refracted one, for an f32 u from 0.25 to 4 and k not below zero
 abbrev pub LawR : Type 0
 LawR =
-    (a b : Vec3) (u : Float) → Direction a → Direction b → T (fits binary32 u) → T (le (ofBits binary32 0x3e800000) u) → T (le u (ofBits binary32 0x40800000))
-    → T (le zer (refractK a b u)) → Refused7Never (refract a b u)
+    (a b : Vec3) (u : Float) → Direction a → Direction b → T (fits binary32 u) → T (le quarter u) → T (le u four) → T (le zer (refractK a b u)) → Refused7Never (refract a b u)

@@ -6,7 +6,7 @@ mod timing;
 
 use compare::calls::{functions_of, FUNCTIONS};
 use compare::command::{status, Outcome};
-use compare::library::{arrows, kept, lists, Account};
+use compare::library::{arrows, kept, lists, rays, Account};
 use compare::tally::Tally;
 use linked::LIBRARY;
 use std::env;
@@ -19,6 +19,9 @@ const USAGE: &str = "usage:
                            each function of one number on every number; those of these numbers alone, as in 1,16
   compare/capi --arrows SEED COUNT
                            COUNT arrows of every exponent by the seed, written by command 1, and their directions by command 2
+  compare/capi --rays SEED COUNT
+                           COUNT lines of 22, 23 and 24 by the seed, on rows that commands made and on rows at the ends of the bound on
+                           directions
   compare/capi --time TURNS COUNT
                            the time of a list of COUNT commands, beside the plain sheet's";
 
@@ -46,6 +49,12 @@ fn run(words: &[&str]) -> Outcome {
             print!("{scales}");
             println!("{} arrows compared, {} different", account.compared, account.different);
             return Ok(if scales.sound() && account.different == 0 { ExitCode::SUCCESS } else { ExitCode::FAILURE });
+        }
+        ["--rays", seed, count] => {
+            let rays = rays::compare(&LIBRARY, &mut account, seed.parse()?, count.parse()?);
+            print!("{rays}");
+            println!("{} lines compared, {} different, {} answered by 7", account.compared, account.different, rays.by_7);
+            return Ok(if rays.sound() && account.different == 0 { ExitCode::SUCCESS } else { ExitCode::FAILURE });
         }
         ["--time", turns, count] => {
             let equal = timing::time(turns.parse()?, count.parse()?);

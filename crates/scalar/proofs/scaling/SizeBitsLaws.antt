@@ -4,10 +4,10 @@ use mathlib.Core.Bool.{Bool, true, false, not, cond}
 use Prim.Native.Nat.{ℕ, zero, suc, _+_, _-_, _*_, _/_, _%_, _^_, _≤_, _<_}
 use native.Mathlib.Nat.{le-trans, le-of-eq, lt-of-lt-of-le, lt-of-le-of-lt, le-of-lt, mul-one, mul-le-mul-right}
 use native.Mathlib.Omega.{arith}
-use lib.Dec.{T, leb, ltb, leb→le, nleb→lt, lt→ltb, lit≤}
+use lib.Dec.{T, leb, ltb, leb→le, nleb→lt, lt→ltb, lit≤, lit<}
 use lib.Arith.{le→nltb}
 use lib.Count.{leadingZeros, leading-of-zero, leading-top}
-use lib.Pow.{pow-add, shl-lt}
+use lib.Pow.{pow-add, pow-mono, shl-lt}
 use lib.Ieee.{Float, nan, inf, fin, binary32, size, fits, toBits}
 use lib.Ieee.Bits.{is-true, cond-no}
 use lib.Ieee.Digits.{size-lt, size-le}
@@ -20,6 +20,7 @@ use Rattle.scalar.specs.Powers.{larger, log2}
 use Rattle.scalar.specs.SizeBits.{sizeBits, largestBits, sizeOfBits}
 use Rattle.scalar.proofs.floats.BitsLaws.{PartsOf, parts-of}
 use Rattle.scalar.proofs.floats.PartsLaws.{value-of-parts}
+use Rattle.scalar.proofs.scaling.PowersMeaningLaws.{log2-high}
 
 -- ---- the binary logarithm: never less for a larger number
 size-mono : (m n : ℕ) → m ≤ n → size m ≤ size n
@@ -38,6 +39,14 @@ by-zeros (suc b) h =
     sums : (z j n : ℕ) → z + suc j ≡ 32 → n ≡ suc j → 31 - z ≡ n - 1
     sums z j n e d = omega arith
 
+-- 1 has the binary logarithm that 0 is given
+one-for-zero : (b : ℕ) → b < 4294967296 → 31 - leadingZeros 32 (larger b 1) ≡ log2 b
+one-for-zero zero h = by-zeros 1 (lit≤ tt) ∙ (unfold size in refl)
+one-for-zero (suc b) h = ap (λ (n : ℕ). 31 - leadingZeros 32 n) (same b) ∙ by-zeros (suc b) h
+  where
+    same : (b : ℕ) → larger (suc b) 1 ≡ suc b
+    same b = omega arith
+
 -- ---- the size with the bits b
 module _ (b : ℕ) where
   subnormal-size : b < 8388608 → sizeOfBits b ≡ b
@@ -48,8 +57,8 @@ module _ (b : ℕ) where
   unfolding sizeOfBits
   normal-size h = cond-no (ltb b 8388608) b ((b % 8388608 + 8388608) * 2 ^ (b / 8388608 - 1)) (le→nltb b 8388608 h)
 
-  pub log2-subnormal : b < 8388608 → 31 - leadingZeros 32 b ≡ log2 (sizeOfBits b)
-  log2-subnormal h = by-zeros b (lt-of-lt-of-le h (lit≤ tt)) ∙ ap log2 (sym (subnormal-size h))
+  pub log2-subnormal : b < 8388608 → 31 - leadingZeros 32 (larger b 1) ≡ log2 (sizeOfBits b)
+  log2-subnormal h = one-for-zero b (lt-of-lt-of-le h (lit≤ tt)) ∙ ap log2 (sym (subnormal-size h))
 
   pub log2-normal : 8388608 ≤ b → b / 8388608 + 22 ≡ log2 (sizeOfBits b)
   log2-normal h =
@@ -77,11 +86,11 @@ module _ (b : ℕ) where
       one-less : (e z : ℕ) → 0 < e → z ≡ suc (23 + (e - 1)) → e + 22 ≡ z - 1
       one-less e z p d = omega arith
 
-  -- of a finite number
-  pub log2-range : b < 2139095040 → log2 (sizeOfBits b) ≤ 276
+  -- at most 276 for finite numbers, and 277 for any
+  pub log2-range : b < 2147483648 → log2 (sizeOfBits b) ≤ 277
   log2-range h = go (leb 8388608 b) (leb→le 8388608 b) (nleb→lt 8388608 b)
     where
-      go : (t : Bool) → (T t → 8388608 ≤ b) → (T (not t) → b < 8388608) → log2 (sizeOfBits b) ≤ 276
+      go : (t : Bool) → (T t → 8388608 ≤ b) → (T (not t) → b < 8388608) → log2 (sizeOfBits b) ≤ 277
       go true k l = le-trans (le-of-eq (sym (log2-normal (k tt)))) (omega arith)
       go false k l = le-trans (le-of-eq (ap log2 (subnormal-size (l tt)))) (let z = size-le b 23 (l tt) in omega arith)
 
@@ -137,6 +146,16 @@ module _ (x : Float) (F : T (fits binary32 x)) (N : T (finite x)) where
       ap sizeOfBits (parts-bits x p) ∙ split-size (p .q) (p .k) (p .split)
       ∙ sym (size-of-value binary32 x (p .s) (p .q * 2 ^ p .k) (value-of-parts x (p .s) (p .q) (p .k) (p .is)) .0)
 
+  -- below twice the power of two of any bits that are not lower
+  pub under-bits : (b : ℕ) → sizeBits x ≤ b → sizeIn binary32 x < 2 ^ log2 (sizeOfBits b) * 2
+  under-bits b h =
+      let n = sizeIn binary32 x in
+      lt-of-lt-of-le (below-twice n) (mul-le-mul-right 2 (pow-mono (le-trans (le-of-eq (ap log2 (sym size-by-bits))) (bits-mono (sizeBits x) b h))))
+    where
+      below-twice : (n : ℕ) → n < 2 ^ log2 n * 2
+      below-twice zero = unfold size in lit< tt
+      below-twice (suc n) = log2-high (suc n) (omega arith)
+
 pub bits-finite : (x : Float) → sizeBits x < 2139095040 → T (finite x)
 unfolding toBits
 bits-finite nan h = absurd (omega arith)
@@ -159,6 +178,10 @@ larger-by f mono m n = go (leb m n) (leb→le m n) (nleb→lt m n)
     go false h l = ap f (first m n (le-of-lt (l tt))) ∙ sym (first (f m) (f n) (mono n m (le-of-lt (l tt))))
 
 module _ (x y z : Float) where
+  pub largest-below : largestBits x y z < 2147483648
+  unfolding largestBits
+  largest-below = omega arith
+
   pub largest-finite : largestBits x y z < 2139095040 → T (finite x) × T (finite y) × T (finite z)
   unfolding largestBits
   largest-finite h = (bits-finite x (omega arith), bits-finite y (omega arith), bits-finite z (omega arith))

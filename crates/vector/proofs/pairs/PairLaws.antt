@@ -9,13 +9,13 @@ use Rattle.vector.specs.declared.vec3.Vec3.{Vec3}
 use Rattle.vector.specs.Vectors.{one}
 use Rattle.vector.specs.Orthogonal.{scaleOf, mixOf, firstOf, secondOf, anyOrthonormalPair}
 use Rattle.vector.specs.ExactVectors.{F32Vec, Direction, NearlyOrthogonal}
-use Rattle.vector.specs.NumericLaws.{OrthogonalDirections, LawP}
+use Rattle.vector.specs.NumericLaws.{Refused7Never, OrthogonalDirections, LawP}
 use Rattle.vector.proofs.values.SignedVectors.{D, E, Exact, Reads, Dot, Norm, exactOf, reads-of}
 use Rattle.vector.proofs.values.ExactDots.{dot-size}
 use Rattle.vector.proofs.pairs.PairDots.{first, second, first-reads, second-reads, first-norm, second-norm}
 use Rattle.vector.proofs.pairs.PairDirections.{normal1, normal2, across}
 use Rattle.vector.proofs.units.UnitLaws.{unitOf}
-use Rattle.vector.proofs.units.NearUnitLaws.{about-one, unscaled, near-direction}
+use Rattle.vector.proofs.units.NearUnitLaws.{about-one, near-direction, never-refused}
 
 first-values : (n : Vec3) → F32Vec (firstOf n)
 first-values n = record {
@@ -57,6 +57,13 @@ module _ (n : Vec3) (d : Direction n) where
   w-norm : Norm w (D * D) (90 * (E * D))
   w-norm = second-norm n (exactOf n) (d .values .f32-x) reads (d .near)
 
+  -- both are finite and near length 1
+  pub first-never : Refused7Never (firstOf n)
+  first-never = never-refused (firstOf n) v 90 (lit≤ tt) v-reads v-norm (first-values n)
+
+  pub second-never : Refused7Never (secondOf n)
+  second-never = never-refused (secondOf n) w 90 (lit≤ tt) w-reads w-norm (second-values n (d .values .f32-y))
+
   -- the directions are the vectors times the reciprocals of their lengths
   pair-directions : OrthogonalDirections n (firstOf n) (secondOf n)
   pair-directions = record {
@@ -64,8 +71,8 @@ module _ (n : Vec3) (d : Direction n) where
     second-length = about-one (secondOf n) w 90 (lit≤ tt) w-reads w-norm;
     first = near-direction (firstOf n) v 90 (lit≤ tt) v-reads v-norm (first-values n);
     second = near-direction (secondOf n) w 90 (lit≤ tt) w-reads w-norm (second-values n (d .values .f32-y));
-    first-unscaled = unscaled (firstOf n) v 90 (lit≤ tt) v-reads v-norm (first-values n);
-    second-unscaled = unscaled (secondOf n) w 90 (lit≤ tt) w-reads w-norm (second-values n (d .values .f32-y));
+    first-unscaled = first-never .unscaled;
+    second-unscaled = second-never .unscaled;
     with-first = nearly n (unitOf (firstOf n)) 100 (lit≤ tt) (normal1 n (exactOf n) (d .values .f32-x) reads (d .near));
     with-second = nearly n (unitOf (secondOf n)) 100 (lit≤ tt) (normal2 n (exactOf n) (d .values .f32-x) reads (d .near));
     with-each-other = nearly (unitOf (firstOf n)) (unitOf (secondOf n)) 146 (lit≤ tt) (across n (exactOf n) (d .values .f32-x) reads (d .near));

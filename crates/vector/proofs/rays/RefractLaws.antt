@@ -21,22 +21,16 @@ use Rattle.vector.specs.Operators.{numberMul}
 use Rattle.vector.specs.Products.{dot}
 use Rattle.vector.specs.Optics.{refract, refractK}
 use Rattle.vector.specs.ExactVectors.{F32Vec, Direction}
-use Rattle.vector.specs.NumericLaws.{LawR, Refused7Never}
+use Rattle.vector.specs.NumericLaws.{quarter, four, LawR, Refused7Never}
 use Rattle.vector.proofs.values.SignedVectors.{D, exactOf, reads-of}
 use Rattle.vector.proofs.rays.RefractRoundings.{Number, gOf, bentOf, k-number, refracted, refracted-reads, refracted-norm}
 use Rattle.vector.proofs.values.VectorFits.{difference-vector}
 use Rattle.vector.proofs.units.NearUnitLaws.{never-refused}
 
--- ---- 0, 1/4 and 4
+-- ---- 0, 0.25 and 4
 zero-is : Value binary32 zer false 0
 unfolding ofBits
 zero-is = (refl, refl)
-
-abbrev quarter : Float
-quarter = ofBits binary32 0x3e800000
-
-abbrev four : Float
-four = ofBits binary32 0x40800000
 
 quarter-is : Value binary32 quarter false (2 ^ 147)
 unfolding ofBits
@@ -72,7 +66,7 @@ bent-is a b u t = sym (ap (λ (c : Bool). cond c (bentOf a b u) ZERO) (is-true (
 bent-values : (a b : Vec3) (u : Float) → F32Vec (bentOf a b u)
 bent-values a b u = difference-vector (numberMul u a) (numberMul (gOf u (dot b a)) b)
 
-module _ (a b : Vec3) (u : Float) (da : Direction a) (db : Direction b) (fit : T (fits binary32 u)) (low : T (le (ofBits binary32 0x3e800000) u)) (high : T (le u (ofBits binary32 0x40800000))) where
+module _ (a b : Vec3) (u : Float) (da : Direction a) (db : Direction b) (fit : T (fits binary32 u)) (low : T (le quarter u)) (high : T (le u four)) where
   H : ℕ
   H = sizeIn binary32 u
 
@@ -83,10 +77,10 @@ module _ (a b : Vec3) (u : Float) (da : Direction a) (db : Direction b) (fit : T
       (between-finite u quarter four (value-finite quarter false (2 ^ 147) D quarter-is) (value-finite four false (4 * D) D four-is) low high)
 
   u-is : Value binary32 u false H
-  u-is = subst (λ (s : Bool). Value binary32 u s H) (above-zero u (ofBits binary32 0x3e800000) (negative u) H (2 ^ 147) D (pow-pos 149) (pow-pos 147) quarter-is u-finite low) u-finite
+  u-is = subst (λ (s : Bool). Value binary32 u s H) (above-zero u quarter (negative u) H (2 ^ 147) D (pow-pos 149) (pow-pos 147) quarter-is u-finite low) u-finite
 
   u-le : H ≤ 4 * D
-  u-le = le-sizes u (ofBits binary32 0x40800000) H (4 * D) D (pow-pos 149) u-is four-is high
+  u-le = le-sizes u four H (4 * D) D (pow-pos 149) u-is four-is high
 
   k : Number (refractK a b u)
   k = k-number a b (exactOf a) (exactOf b) (reads-of a (da .values) (da .numbers)) (reads-of b (db .values) (db .numbers)) (da .near) (db .near) u H u-is u-le

@@ -21,17 +21,18 @@ use Rattle.scalar.specs.Powers.{timesPower, larger, log2}
 use Rattle.scalar.proofs.scaling.SizeBitsLaws.{larger-by}
 use Rattle.scalar.proofs.scaling.PowersMeaningLaws.{product-means, log2-low, log2-high}
 use Rattle.vector.specs.declared.vec3.Vec3.{Vec3}
-use Rattle.vector.specs.declared.vec3.normalizing.Normalized.the-variants.{Nothing}
+use Rattle.vector.specs.declared.vec3.normalizing.Normalized.the-variants.{Unit, Nothing}
 use Rattle.vector.specs.Vectors.{one, each}
 use Rattle.vector.specs.Products.{lengthSquared}
 use Rattle.vector.specs.Normalizing.{tryNormalize}
-use Rattle.vector.specs.DirectionOf.{hasDirection, directionOf}
-use Rattle.vector.specs.ExactVectors.{F32Vec, FiniteVec}
+use Rattle.vector.specs.DirectionOf.{hasDirection, directionOf, directionUnchecked}
+use Rattle.vector.specs.ExactVectors.{F32Vec, FiniteVec, UnitWithin}
 use Rattle.vector.specs.Scaled.{largest, scaled}
 use Rattle.vector.specs.NumericLaws.{LawU}
 use Rattle.vector.specs.ScaledMeaning.{thirteen, BroughtToOne, LawScaled}
+use Rattle.vector.specs.NeverZero.{LawUnchecked}
 use Rattle.vector.proofs.values.SignedVectors.{D, one-is}
-use Rattle.vector.proofs.units.UnitLaws.{unitOf, normalized-is, normalized-unit}
+use Rattle.vector.proofs.units.UnitLaws.{normalized-is, normalized-unit}
 use Rattle.vector.proofs.scaling.ScaledBits.{scaled-is}
 use Rattle.vector.proofs.scaling.ScaledComponents.{part-value, part-fits, part-most, part-least, part-exact, part-bound}
 use Rattle.vector.proofs.scaling.BoundedSquares.{whole, whole-least, whole-most, whole-value}
@@ -219,15 +220,34 @@ law-scaled a v h =
 one-size : (l : Float) → T (finite l) → negative l ≡ false → T (fits binary32 l) → T (le one l) → 2 ^ 23 ≤ sizeIn binary32 l
 one-size l t s f h = le-trans (lit≤ tt) (le-sizes one l D (sizeIn binary32 l) D (pow-pos 149) one-is (unsigned-value binary32 l f t s) h)
 
+module _ (a : Vec3) (v : F32Vec a) (h : T (hasDirection a)) where
+  brings : BroughtToOne a (scaled a)
+  brings = law-scaled a v h
+
+  number : T (finite (lengthSquared (scaled a)))
+  number =
+      between-finite (lengthSquared (scaled a)) one thirteen (value-finite one false D D one-is) (value-finite thirteen false (13 * D) D thirteen-is) (brings .squared-least) (brings .squared-most)
+
+  enough : 2 ^ 23 ≤ sizeIn binary32 (lengthSquared (scaled a))
+  enough = one-size (lengthSquared (scaled a)) number (squared-sign (scaled a)) (squared-fits (scaled a)) (brings .squared-least)
+
+  -- `try_normalize` answers a vector, the product without its test
+  pub unchecked-is : tryNormalize (scaled a) ≡ Unit (directionUnchecked a)
+  unfolding directionUnchecked
+  unchecked-is = normalized-is (scaled a) (brings .values) number enough
+
+  pub unchecked-unit : UnitWithin 15 (directionUnchecked a)
+  unfolding directionUnchecked
+  unchecked-unit = normalized-unit (scaled a) (brings .values) number enough
+
+pub law-unchecked : LawUnchecked
+law-unchecked a v h = unchecked-is a v h
+
 pub law-u : LawU
 unfolding directionOf
 law-u a v h =
-    let b = law-scaled a v h in
-    let l = lengthSquared (scaled a) in
-    let number = between-finite l one thirteen (value-finite one false D D one-is) (value-finite thirteen false (13 * D) D thirteen-is) (b .squared-least) (b .squared-most) in
-    let enough = one-size l number (squared-sign (scaled a)) (squared-fits (scaled a)) (b .squared-least) in
     record {
-      direction = unitOf (scaled a);
-      is = ap (λ (c : Bool). cond c (tryNormalize (scaled a)) Nothing) (is-true (hasDirection a) h) ∙ normalized-is (scaled a) (b .values) number enough;
-      unit = normalized-unit (scaled a) (b .values) number enough;
+      direction = directionUnchecked a;
+      is = ap (λ (c : Bool). cond c (tryNormalize (scaled a)) Nothing) (is-true (hasDirection a) h) ∙ unchecked-is a v h;
+      unit = unchecked-unit a v h;
     }

@@ -13,11 +13,13 @@ use Rattle.vector.specs.declared.vec3.Vec3.{Vec3}
 use Rattle.vector.specs.Vectors.{ZERO, zer, each, both}
 use Rattle.vector.specs.Operators.{add, sub, mulNumber, divNumber, numberMul}
 use Rattle.vector.specs.Elements.{gt, lesser, greater, min, max}
-use Rattle.vector.specs.Products.{dot, cross, length, lengthSquared}
+use Rattle.vector.specs.Products.{dot, cross, length, lengthSquared, lengthRecip}
 use Rattle.vector.specs.Projections.{otherLenSqRcp, projectOnto, rejectFrom, projectOntoNormalized, rejectFromNormalized}
 use Rattle.vector.specs.LengthClamps.{clampLength}
 use Rattle.vector.specs.Interpolation.{half, arrived, lerp, moveTowards, midpoint, mulAdd}
 use Rattle.vector.specs.Rounding.{trunc, floor, round, divEuclid, remEuclid}
+use Rattle.vector.specs.Scaled.{scaled}
+use Rattle.vector.specs.DirectionOf.{directionUnchecked}
 use Rattle.vector.specs.Optics.{reflect, refract, refractK}
 use Rattle.vector.specs.Orthogonal.{anyOrthogonalVector}
 use Rattle.vector.specs.ExactVectors.{F32Vec}
@@ -147,6 +149,10 @@ remainder-vector a b p q = kept-fits Euclid.remEuclid (λ x y h k. rem-euclid-fi
 pub reflected-vector : (a b : Vec3) → F32Vec (reflect a b)
 unfolding reflect
 reflected-vector a b = difference-vector a _
+
+pub unchecked-vector : (a : Vec3) → F32Vec (directionUnchecked a)
+unfolding directionUnchecked
+unchecked-vector a = scaled-vector (scaled a) (lengthRecip (scaled a))
 
 pub refracted-vector : (a b : Vec3) (u : Float) → F32Vec (refract a b u)
 unfolding refract

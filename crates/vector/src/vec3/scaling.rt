@@ -1,6 +1,11 @@
-// A vector brought to a largest size of at least 1 and below 2, by a power of two.
+// A vector brought to a largest size of at least 1 and below 2, by a power of two, and the direction that is taken of it without a test.
 ghost use mathlib.Core.Path.{_≡_};
+ghost use Prim.Native.Nat.{_<_};
+ghost use Rattle.scalar.specs.Powers.{timesPower, log2};
+ghost use Rattle.scalar.specs.SizeBits.{sizeOfBits};
+ghost use Rattle.vector.specs.Vectors.{each};
 ghost use Rattle.vector.specs.Scaled as Scaled;
+ghost use Rattle.vector.specs.DirectionOf as DirectionOf;
 use crate::vec3::Vec3;
 use scalar::powers::largest_bits;
 use scalar::powers::log2_of_bits;
@@ -16,6 +21,22 @@ impl Vec3 {
         if b >= 0x7f80_0000 {
             return self; // ScaledBits.scaled-other
         }
+        self.scaled_by(b)
+    }
+
+    // The direction of a vector that has one, which no test asks: of any other NaNs and zeros.
+    pub fn direction_unchecked(self) -> Vec3
+        ensures { λ r. ⌜ r ≡ DirectionOf.directionUnchecked self ⌝ }
+    {
+        let s = self.scaled_by(largest_bits(self.x, self.y, self.z));
+        s.mul_f32(s.length_recip()) // UncheckedLaws.unchecked-by-bits
+    }
+
+    // Each component times the power of two that brings the size with the bits b to at least 1 and below 2, rounded once.
+    fn scaled_by(self, b: u32) -> Vec3
+        requires { ⌜ b < 2147483648 ⌝ }
+        ensures { λ r. ⌜ r ≡ each (timesPower (log2 (sizeOfBits b))) self ⌝ }
+    {
         let j = log2_of_bits(b);
         if j < 22 {
             // the power is above all f32

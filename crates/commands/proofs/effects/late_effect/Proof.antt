@@ -11,11 +11,12 @@ use Rattle.vector.specs.Operators.{mulNumber}
 use Rattle.vector.specs.Masks.{bitmask}
 use Rattle.vector.specs.LengthClamps.{clampLength}
 use Rattle.vector.specs.Interpolation.{lerp, moveTowards, mulAdd}
+use Rattle.vector.specs.DirectionOf.{directionUnchecked}
 use Rattle.vector.specs.Optics.{refract, refractK}
 use Rattle.commands.specs.Codes.{directionMissing, allReflected, lineParallel}
 use Rattle.commands.specs.Rows.{ModelRow}
 use Rattle.commands.specs.Planes.{isParallel, meeting}
-use Rattle.commands.specs.Results.{Point, Aim, Aims, Number, Root, Whole}
+use Rattle.commands.specs.Results.{Point, Directed, DirectedPair, Number, Root, Whole}
 use Rattle.commands.specs.Commands.{table, entryAt}
 use Rattle.commands.specs.Refusals.{noRefraction, noMeeting, noFactor}
 use Rattle.commands.specs.Effects.{ModelEffect, unless, settled}
@@ -31,14 +32,14 @@ points v = settled (Point v)
 abbrev projects : ModelRow → Vec3 → ModelEffect
 projects b v = unless directionMissing (noFactor b) (points v)
 
-abbrev aims : Vec3 → ModelEffect
-aims v = settled (Aim v)
+abbrev directs : Vec3 → ModelEffect
+directs v = settled (Directed (directionUnchecked v))
 
 abbrev refracts : Vec3 → Vec3 → Float → ModelEffect
-refracts a b u = unless allReflected (lt (refractK a b u) zer) (aims (refract a b u))
+refracts a b u = unless allReflected (lt (refractK a b u) zer) (directs (refract a b u))
 
 abbrev pairs : Pair → ModelEffect
-pairs p = settled (Aims (p .first) (p .second))
+pairs p = settled (DirectedPair (directionUnchecked (p .first)) (directionUnchecked (p .second)))
 
 abbrev numbers : Float → ModelEffect
 numbers x = settled (Number x)
@@ -120,9 +121,9 @@ late-effect-spec =
     (λ c. arm _ _ 19 (c .before .before .match .keys20) (c .point16 .ensures ∙ ap points (c .before .div-euclid .ensures)))
     (λ c. arm _ _ 20 (c .before .before .match .keys21) (c .point17 .ensures ∙ ap points (c .before .rem-euclid .ensures)))
     (λ c. arm _ _ 21 (c .before .before .match .keys22) (c .point18 .ensures ∙ ap points (c .before .any-orthogonal-vector .ensures)))
-    (λ c. arm _ _ 22 (c .before .before .match .keys23) (c .direction2 .ensures ∙ ap aims (c .before .reflect .ensures)))
+    (λ c. arm _ _ 22 (c .before .before .match .keys23) (c .directed .ensures ∙ ap directs (c .before .reflect .ensures)))
     (λ c. arm _ _ 23 (c .before .before .match .keys24) (c .refracted .ensures ∙ ap (refracts _ _) (c .before .from-bits6 .ensures)))
-    (λ c. arm _ _ 24 (c .before .before .match .keys25) (c .directions .ensures ∙ ap pairs (c .before .any-orthonormal-pair .ensures)))
+    (λ c. arm _ _ 24 (c .before .before .match .keys25) (c .directed-pair .ensures ∙ ap pairs (c .before .any-orthonormal-pair .ensures)))
     (λ c. arm _ _ 25 (c .before .before .match .keys26) (c .number .ensures ∙ ap numbers (c .before .dot .ensures)))
     (λ c. arm _ _ 26 (c .before .before .match .keys27) (c .root .ensures ∙ ap roots (c .before .length-and-exactness .ensures)))
     (λ c. arm _ _ 27 (c .before .before .match .keys28) (c .root2 .ensures ∙ ap roots (c .before .distance-and-exactness .ensures)))
