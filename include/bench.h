@@ -91,8 +91,7 @@ float bench_rem(float a, float b);
      4  a row that it reads is empty, or not of a kind that it reads: see above
      5  a value that it uses is not finite; in 10 not 0 <= u <= v; in 23 u is not from 0.25 to 4
      8  in 23 all is reflected and nothing refracted
-     7  in 2 all three numbers of row a are 0 or -0; in 22, 23 and 24 the vector whose direction is taken has three such numbers or one that is not finite; in 11 and 12 with a point b, 1/(b.b) is not
-        finite; in 28 a squared length is 0
+     7  in 2 all three numbers of row a are 0 or -0; in 11 and 12 with a point b, 1/(b.b) is not finite; in 28 a squared length is 0
     12  in 36 n.b is 0 or -0 as it is computed
      6  the point, the number or the offset is not finite
 

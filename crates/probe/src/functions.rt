@@ -39,7 +39,7 @@ const SIGN: u16 = 8;
 
 // The shape of each number's function, and 0 where there is none: its ones are how many arguments it takes, its tens how many of these, at the front, are
 // bools, and its hundreds its group.
-const SHAPES: [u16; 123] = [
+const SHAPES: [u16; 124] = [
     0,
     101, // 1: sqrt
     103, // 2: mul_add
@@ -163,11 +163,12 @@ const SHAPES: [u16; 123] = [
     903, // 120: length_and_exactness
     906, // 121: distance_and_exactness
     503, // 122: scaled
+    503, // 123: direction_unchecked
 ];
 
 // The shape of a number's function.
 fn shape_of(number: u32) -> u16 {
-    if number < 123 {
+    if number < 124 {
         return SHAPES[number as usize];
     }
     0

@@ -20,7 +20,8 @@ pub(crate) fn of_one(number: u32, a: Vec3) -> Vec3 {
         100 => a.any_orthogonal_vector(),
         101 => a.any_orthonormal_vector(),
         112 => a.neg(),
-        _ => a.scaled(), // 122
+        122 => a.scaled(),
+        _ => a.direction_unchecked(), // 123
     }
 }
 

@@ -1,8 +1,8 @@
--- Cases of document 02's f, computed from the definitions. f is the float of a bit pattern.
+-- Cases of document 02's f and g, computed from the definitions. f is the float of a bit pattern.
 use mathlib.Core.Path.{_≡_, refl}
 use mathlib.Core.Bool.{true}
 use Prim.Native.Nat.{ℕ}
-use lib.Ieee.{Float, inf, binary32, ofBits, size, round, sum, add, mul, div, lt, eq}
+use lib.Ieee.{Float, nan, inf, binary32, ofBits, size, round, sum, add, mul, div, lt, eq}
 use Rattle.laws.specs.Exact.{sizeIn}
 use Rattle.laws.specs.WholeRoot.{wholeRoot}
 use Rattle.scalar.specs.Root.{root, rootUnits}
@@ -14,7 +14,7 @@ use Rattle.vector.specs.Comparisons.{isFinite}
 use Rattle.vector.specs.Products.{dot, length, lengthRecip}
 use Rattle.vector.specs.Normalizing.{usable, tryNormalize}
 use Rattle.vector.specs.Scaled.{scaled}
-use Rattle.vector.specs.DirectionOf.{threeZeros, directionOf}
+use Rattle.vector.specs.DirectionOf.{threeZeros, directionOf, directionUnchecked}
 
 abbrev f : ℕ → Float
 f b = ofBits binary32 b
@@ -38,9 +38,14 @@ pub record ScaledCorners : Type 0 where
   -- "exactly for three zeros .. for those or a number not finite"
   zeros : directionOf (vec zer (f 0x80000000) zer) ≡ Nothing
   infinite : directionOf (vec one (inf true) zer) ≡ Nothing
+  -- without the test: the direction where there is one; NaNs of three zeros and of a NaN, and zeros beside an infinite component
+  unchecked : directionUnchecked (vec (f 0x1f800000) zer zer) ≡ X
+  unchecked-zeros : directionUnchecked (vec zer (f 0x80000000) zer) ≡ vec nan nan nan
+  unchecked-nan : directionUnchecked (vec nan one (inf true)) ≡ vec nan nan nan
+  unchecked-infinite : directionUnchecked (vec one (inf true) (f 0x80000001)) ≡ vec zer nan (f 0x80000000)
 
 pub scaled-corners : ScaledCorners
-unfolding directionOf threeZeros scaled isFinite timesPower sizeIn size round ofBits tryNormalize usable lengthRecip length dot root rootUnits wholeRoot mulNumber mul add sum div lt eq
+unfolding directionOf directionUnchecked threeZeros scaled isFinite timesPower sizeIn size round ofBits tryNormalize usable lengthRecip length dot root rootUnits wholeRoot mulNumber mul add sum div lt eq
 scaled-corners = record {
   short = refl;
   unscaled = refl;
@@ -53,4 +58,8 @@ scaled-corners = record {
   tie = refl;
   zeros = refl;
   infinite = refl;
+  unchecked = refl;
+  unchecked-zeros = refl;
+  unchecked-nan = refl;
+  unchecked-infinite = refl;
 }

@@ -148,7 +148,7 @@ remainder-vector a b p q = kept-fits Euclid.remEuclid (λ x y h k. rem-euclid-fi
 -- ---- optics, and the vector at right angles
 pub reflected-vector : (a b : Vec3) → F32Vec (reflect a b)
 unfolding reflect
-reflected-vector a b = difference-vector a _
+reflected-vector a b = difference-vector _ _
 
 pub unchecked-vector : (a : Vec3) → F32Vec (directionUnchecked a)
 unfolding directionUnchecked
