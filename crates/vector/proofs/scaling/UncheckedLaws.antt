@@ -158,35 +158,37 @@ other-alike a b other x y z =
     ∙ sym (λ i. vec (alike-times (anyNan a) (a .x) (b .x) x i) (alike-times (anyNan a) (a .y) (b .y) y i) (alike-times (anyNan a) (a .z) (b .z) z i))
     ∙ ap (mulNumber a) (sym (recip-other a other))
 
-module _ (a : Vec3) (v : F32Vec a) where
+-- ---- the bits of the largest size
+module _ (a : Vec3) where
   abbrev bits : ℕ
   bits = largestBits (a .x) (a .y) (a .z)
 
-  x-bits : sizeBits (a .x) ≤ bits
+  pub x-bits : sizeBits (a .x) ≤ bits
   unfolding largestBits
   x-bits = omega arith
 
-  y-bits : sizeBits (a .y) ≤ bits
+  pub y-bits : sizeBits (a .y) ≤ bits
   unfolding largestBits
   y-bits = omega arith
 
-  z-bits : sizeBits (a .z) ≤ bits
+  pub z-bits : sizeBits (a .z) ≤ bits
   unfolding largestBits
   z-bits = omega arith
 
+module _ (a : Vec3) (v : F32Vec a) where
   pub unchecked-by-bits : unitOf (each (timesPower (log2 (sizeOfBits (largestBits (a .x) (a .y) (a .z))))) a) ≡ directionUnchecked a
   unfolding directionUnchecked
-  unchecked-by-bits = go (ltb bits 2139095040) (ltb→lt bits 2139095040) (nltb→le bits 2139095040)
+  unchecked-by-bits = go (ltb (bits a) 2139095040) (ltb→lt (bits a) 2139095040) (nltb→le (bits a) 2139095040)
     where
       j : ℕ
-      j = log2 (sizeOfBits bits)
+      j = log2 (sizeOfBits (bits a))
 
-      alike : (x : Float) → T (fits binary32 x) → sizeBits x ≤ bits → Alike x (timesPower j x)
-      alike x f h = power-alike j x f (λ t. under-bits x f t bits h)
+      alike : (x : Float) → T (fits binary32 x) → sizeBits x ≤ bits a → Alike x (timesPower j x)
+      alike x f h = power-alike j x f (λ t. under-bits x f t (bits a) h)
 
-      go : (b : Bool) → (T b → bits < 2139095040) → (T (not b) → 2139095040 ≤ bits) → unitOf (each (timesPower j) a) ≡ unitOf (scaled a)
+      go : (b : Bool) → (T b → bits a < 2139095040) → (T (not b) → 2139095040 ≤ bits a) → unitOf (each (timesPower j) a) ≡ unitOf (scaled a)
       go true less more = ap unitOf (scaled-by-bits a v (less tt))
-      go false less more = other-alike a (each (timesPower j) a) other (alike (a .x) (v .f32-x) x-bits) (alike (a .y) (v .f32-y) y-bits) (alike (a .z) (v .f32-z) z-bits) ∙ ap unitOf (scaled-other a v (more tt))
+      go false less more = other-alike a (each (timesPower j) a) other (alike (a .x) (v .f32-x) (x-bits a)) (alike (a .y) (v .f32-y) (y-bits a)) (alike (a .z) (v .f32-z) (z-bits a)) ∙ ap unitOf (scaled-other a v (more tt))
         where
           other : FiniteVec a → ⊥
           other n = not-le-of-lt (finite-largest (a .x) (a .y) (a .z) (v .f32-x) (v .f32-y) (v .f32-z) (n .finite-x) (n .finite-y) (n .finite-z)) (more tt)

@@ -1,8 +1,7 @@
 // A vector brought to a largest size of at least 1 and below 2, by a power of two, and the direction that is taken of it without a test.
 ghost use mathlib.Core.Path.{_≡_};
-ghost use Prim.Native.Nat.{_<_};
 ghost use Rattle.scalar.specs.Powers.{timesPower, log2};
-ghost use Rattle.scalar.specs.SizeBits.{sizeOfBits};
+ghost use Rattle.scalar.specs.SizeBits.{largestBits, sizeOfBits};
 ghost use Rattle.vector.specs.Vectors.{each};
 ghost use Rattle.vector.specs.Scaled as Scaled;
 ghost use Rattle.vector.specs.DirectionOf as DirectionOf;
@@ -10,7 +9,6 @@ use crate::vec3::Vec3;
 use scalar::powers::largest_bits;
 use scalar::powers::log2_of_bits;
 use scalar::powers::power_of_two;
-use scalar::powers::times_power;
 
 impl Vec3 {
     // Each component times the power of two, rounded once. Zeros stay, and so does a vector that is not finite.
@@ -32,19 +30,16 @@ impl Vec3 {
         s.mul_f32(s.length_recip()) // UncheckedLaws.unchecked-by-bits
     }
 
-    // Each component times the power of two that brings the size with the bits b to at least 1 and below 2, rounded once.
+    // Each component times the power of two that brings the largest size, which has the bits b, to at least 1 and below 2, rounded once.
     fn scaled_by(self, b: u32) -> Vec3
-        requires { ⌜ b < 2147483648 ⌝ }
+        requires { ⌜ b ≡ largestBits (self .x) (self .y) (self .z) ⌝ }
         ensures { λ r. ⌜ r ≡ each (timesPower (log2 (sizeOfBits b))) self ⌝ }
     {
         let j = log2_of_bits(b);
         if j < 22 {
-            // the power is above all f32
-            return Vec3 {
-                x: times_power(self.x, j),
-                y: times_power(self.y, j),
-                z: times_power(self.z, j),
-            };
+            // the power is above all f32: by 2^127 and then the rest, both exact (PowerTwiceLaws.power-twice)
+            return self.mul_f32(power_of_two(22))
+                .mul_f32(power_of_two(127 + j));
         }
         self.mul_f32(power_of_two(j)) // PowerLaws.power-factor
     }

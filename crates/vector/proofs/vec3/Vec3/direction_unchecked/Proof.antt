@@ -1,12 +1,10 @@
 -- `vector::vec3::Vec3::direction_unchecked` meets its contract. Assumes nothing.
 use mathlib.Core.Path.{sym, ap, _∙_, subst}
 use Prim.Native.Nat.{ℕ}
-use native.Mathlib.Nat.{le-of-eq, lt-of-le-of-lt}
 use lib.Dec.{T}
 use borrow.Author.Needs.{needs}
 use Rattle.scalar.specs.Powers.{timesPower, log2}
 use Rattle.scalar.specs.SizeBits.{sizeOfBits}
-use Rattle.scalar.proofs.scaling.SizeBitsLaws.{largest-below}
 use Rattle.vector.specs.Vectors.{each}
 use Rattle.vector.specs.Operators.{mulNumber}
 use Rattle.vector.specs.ExactVectors.{F32Vec}
@@ -31,4 +29,4 @@ returns c =
     ∙ unchecked-by-bits v (held (b .before))
 
 pub direction-unchecked-spec : {M : Type 1} → statement M
-direction-unchecked-spec = tie.close (tie.spec (λ c κs. search needs) (λ c κs. lt-of-le-of-lt (le-of-eq (c .largest-bits .ensures)) (largest-below _ _ _)) (λ c κs. search needs) (λ c κs. search needs) returns)
+direction-unchecked-spec = tie.close (tie.spec (λ c κs. search needs) (λ c κs. c .largest-bits .ensures) (λ c κs. search needs) (λ c κs. search needs) returns)

@@ -32,4 +32,4 @@ returns-2 c =
     ∙ scaled-by-bits v (held (b .before)) (lt-of-le-of-lt (le-of-eq (sym (b .largest-bits .ensures))) (omega arith))
 
 pub scaled-spec : {M : Type 1} → statement M
-scaled-spec = tie.close (tie.spec (λ c κs. search needs) returns (λ c κs. search needs) returns-2)
+scaled-spec = tie.close (tie.spec (λ c κs. search needs) returns (λ c κs. c .before .largest-bits .ensures) returns-2)
