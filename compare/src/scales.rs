@@ -2,6 +2,7 @@
 
 use crate::arrows::{LEAST, MOST};
 use crate::exact::parts;
+use crate::table::named;
 use std::fmt;
 
 /// How many largest exponents a vector may have.
@@ -113,12 +114,7 @@ impl fmt::Display for Scales {
             0 => writeln!(f, "the others none")?,
             _ => writeln!(f, "each at least {least} times")?,
         }
-        for (place, (outcome, count)) in OUTCOMES.iter().zip(self.counts).enumerate() {
-            let before = if place == 0 { "" } else { ", " };
-            let count = if count == 0 { "none".to_string() } else { count.to_string() };
-            write!(f, "{before}{outcome} {count}")?;
-        }
-        writeln!(f)
+        named(f, &OUTCOMES, &self.counts)
     }
 }
 

@@ -1,4 +1,4 @@
-//! The table of a sitting: how often each command had each outcome, and the worst values.
+//! The table of a sitting: how often each command had each outcome, and the worst values; and how counts are written, here and elsewhere.
 
 use crate::outcomes::{can_have, ABOVE, EXACT, MALFORMED, PLANE};
 use crate::sheet::COMMANDS;
@@ -22,15 +22,7 @@ impl fmt::Display for Tally {
                 MALFORMED => write!(f, "malformed")?,
                 _ => write!(f, "{row:<9}")?,
             }
-            for outcome in ORDER {
-                match (counts[outcome], can_have(row, outcome)) {
-                    (0, false) => write!(f, "{:>9}", "-")?,
-                    (0, true) => write!(f, "{:>9}", "none")?,
-                    (count, true) => write!(f, "{count:>9}")?,
-                    (count, false) => write!(f, "{:>9}", format!("!{count}"))?,
-                }
-            }
-            writeln!(f)?;
+            outcomes(f, row, counts, &ORDER)?;
         }
         writeln!(
             f,
@@ -48,4 +40,27 @@ impl fmt::Display for Tally {
         }
         Ok(())
     }
+}
+
+/// The rest of a row of a table: how often it had each of these outcomes.
+pub fn outcomes(f: &mut fmt::Formatter, row: usize, counts: &[u64], order: &[usize]) -> fmt::Result {
+    for &outcome in order {
+        match (counts[outcome], can_have(row, outcome)) {
+            (0, false) => write!(f, "{:>9}", "-")?,
+            (0, true) => write!(f, "{:>9}", "none")?,
+            (count, true) => write!(f, "{count:>9}")?,
+            (count, false) => write!(f, "{:>9}", format!("!{count}"))?,
+        }
+    }
+    writeln!(f)
+}
+
+/// The rest of a line: how often there was what each of these names says.
+pub fn named(f: &mut fmt::Formatter, names: &[&str], counts: &[u64]) -> fmt::Result {
+    for (place, (name, &count)) in names.iter().zip(counts).enumerate() {
+        let before = if place == 0 { "" } else { ", " };
+        let count = if count == 0 { "none".to_string() } else { count.to_string() };
+        write!(f, "{before}{name} {count}")?;
+    }
+    writeln!(f)
 }

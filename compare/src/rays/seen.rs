@@ -6,6 +6,7 @@ use super::rows::{Ray, BOUND};
 use crate::exact::{dot, is_short, off_one, Size};
 use crate::outcomes::{can_have, OUTCOMES};
 use crate::sheet::Command;
+use crate::table::{named, outcomes};
 use std::fmt;
 
 /// The commands.
@@ -202,35 +203,20 @@ impl fmt::Display for Seen {
         for (place, counts) in self.outcomes.iter().enumerate() {
             let row = place + FIRST as usize;
             write!(f, "{row:<8}")?;
-            for outcome in ORDER {
-                match (counts[outcome], can_have(row, outcome)) {
-                    (0, false) => write!(f, "{:>9}", "-")?,
-                    (0, true) => write!(f, "{:>9}", "none")?,
-                    (count, true) => write!(f, "{count:>9}")?,
-                    (count, false) => write!(f, "{:>9}", format!("!{count}"))?,
-                }
-            }
-            writeln!(f)?;
+            outcomes(f, row, counts, &ORDER)?;
         }
-        sorts(f, "squared lengths of rows read", &SOURCES, &self.sources)?;
-        sorts(f, "ratios of 23", &RATIOS, &self.ratios)?;
-        sorts(f, "rows of 22 and 23", &ANGLES, &self.angles)?;
-        sorts(f, "rows of 24", &AXES, &self.axes)?;
+        write!(f, "squared lengths of rows read: ")?;
+        named(f, &SOURCES, &self.sources)?;
+        write!(f, "ratios of 23: ")?;
+        named(f, &RATIOS, &self.ratios)?;
+        write!(f, "rows of 22 and 23: ")?;
+        named(f, &ANGLES, &self.angles)?;
+        write!(f, "rows of 24: ")?;
+        named(f, &AXES, &self.axes)?;
         let [read, written] = [self.read, self.written].map(|off| off.steps());
         writeln!(f, "exact squared length of a row read: at most {read:.4} times 2^-24 from 1 (64 allowed), of one written: {written:.4}")?;
         writeln!(f, "exact dot product of 24's directions: at most {:.4} times 2^-24 (256 allowed)", self.dot.steps())
     }
-}
-
-/// A line of how often each sort was seen.
-fn sorts(f: &mut fmt::Formatter, title: &str, names: &[&str], counts: &[u64]) -> fmt::Result {
-    write!(f, "{title}: ")?;
-    for (place, (name, &count)) in names.iter().zip(counts).enumerate() {
-        let before = if place == 0 { "" } else { ", " };
-        let count = if count == 0 { "none".to_string() } else { count.to_string() };
-        write!(f, "{before}{name} {count}")?;
-    }
-    writeln!(f)
 }
 
 #[cfg(test)]

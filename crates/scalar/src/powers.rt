@@ -27,10 +27,13 @@ pub fn times_power(x: f32, j: u32) -> f32
 pub fn power_of_two(j: u32) -> f32
     ensures { λ r. ⌜ r ≡ Powers.powerOfTwo j ⌝ }
 {
-    if j < 22 || j > 275 {
+    if j < 22 || j > 298 {
         return times_power(1.0, j); // PowerLaws.power-of-one
     }
-    pack(false, 0x80_0000, 275 - j) // a normal f32 (PowerLaws.power-packed)
+    if j > 275 {
+        return pack(false, 1 << (298 - j), 0); // a subnormal f32 (PowerLaws.power-subnormal)
+    }
+    pack(false, 0x80_0000, 275 - j) // a normal one (PowerLaws.power-normal)
 }
 
 // The bits of the largest size of three numbers.

@@ -2,8 +2,8 @@
 use mathlib.Core.Path.{_≡_, refl, sym, ap, _∙_, subst}
 use mathlib.Core.Bool.{Bool, true, false, cond}
 use mathlib.Core.Logic.{inl, inr}
-use Prim.Native.Nat.{ℕ, zero, suc, _+_, _-_, _*_, _^_, _≤_, _<_}
-use native.Mathlib.Nat.{le-trans, le-of-eq, le-of-lt, lt-of-lt-of-le, lt-of-le-of-lt, mul-le-mul-right, mul-lt-mul-of-pos-right, mul-assoc, mul-one, one-mul, mul-pos}
+use Prim.Native.Nat.{ℕ, zero, suc, _+_, _-_, _*_, _%_, _^_, _≤_, _<_}
+use native.Mathlib.Nat.{le-trans, le-of-eq, le-of-lt, lt-of-lt-of-le, lt-of-le-of-lt, mul-le-mul-right, mul-lt-mul-of-pos-right, mul-assoc, mul-one, one-mul, mul-pos, mod-eq-of-lt}
 use native.Mathlib.Omega.{arith}
 use lib.Dec.{T, lit≤, lit<}
 use lib.Pow.{pow-pos, pow-add, pow-lt, pow-mono}
@@ -19,7 +19,7 @@ use Rattle.laws.proofs.values.ValueLaws.{Value, value-same, value-unique}
 use Rattle.laws.proofs.values.SizeLaws.{value-of-size}
 use Rattle.laws.proofs.operations.OperationLaws.{mul-at}
 use Rattle.laws.proofs.rounding.ErrorLaws.{rounded-none, rounded-value}
-use Rattle.scalar.specs.Parts.{Split}
+use Rattle.scalar.specs.Parts.{Split, Packs}
 use Rattle.scalar.specs.Powers.{timesPower, powerOfTwo}
 use Rattle.scalar.proofs.floats.PartsLaws.{Other, value-of-parts, parts-under}
 use Rattle.scalar.proofs.floats.PackLaws.{pack-is}
@@ -150,26 +150,43 @@ module _ (j : ℕ) (lo : 22 ≤ j) (hi : j ≤ 298) where
   pub power-factor : (x : Float) → T (fits binary32 x) → mul binary32 x (powerOfTwo j) ≡ timesPower j x
   power-factor = by-product j (powerOfTwo j) hi exact-power
 
--- a normal one, packed
-pub power-packed : (j : ℕ) → 22 ≤ j → j ≤ 275 → units binary32 false 8388608 (275 - j) ≡ powerOfTwo j
-unfolding powerOfTwo
-power-packed j lo hi =
-    value-unique binary32 (units binary32 false 8388608 (275 - j)) (round binary32 false (2 ^ 149) (2 ^ j)) false (2 ^ (298 - j)) packed-fits (round-fits binary32 false (2 ^ 149) (2 ^ j)) is
-    (exact-power j lo (omega arith))
+-- packed: q times 2 ^ k smallest values
+module _ (j q k : ℕ) (lo : 22 ≤ j) (hi : j ≤ 298) (p : Packs q k) (is : q * 2 ^ k ≡ 2 ^ (298 - j)) where
+  packed-value : Value binary32 (units binary32 false q k) false (2 ^ (298 - j))
+  packed-value =
+      subst (λ (n : ℕ). Value binary32 (units binary32 false q k) false n) is (units-val binary32 false q k (lt-of-le-of-lt (le-of-eq is) (under j lo hi)))
+
+  packed-fits : T (fits binary32 (units binary32 false q k))
+  packed-fits = subst (λ (y : Float). T (fits binary32 y)) (pack-is false q k p) (ofBits-fits binary32 (0 + k * 8388608 + q))
+
+  power-packed : units binary32 false q k ≡ powerOfTwo j
+  unfolding powerOfTwo
+  power-packed =
+      value-unique binary32 (units binary32 false q k) (round binary32 false (2 ^ 149) (2 ^ j)) false (2 ^ (298 - j)) packed-fits (round-fits binary32 false (2 ^ 149) (2 ^ j)) packed-value
+      (exact-power j lo hi)
+
+-- a normal one
+pub power-normal : (j : ℕ) → 22 ≤ j → j ≤ 275 → units binary32 false 8388608 (275 - j) ≡ powerOfTwo j
+power-normal j lo hi =
+    power-packed j 8388608 (275 - j) lo (omega arith) (record { most = lit≤ tt; range = omega arith; least = λ h. absurd (omega (arith, h)) })
+    (sym (pow-add 2 23 (275 - j)) ∙ ap (λ (n : ℕ). 2 ^ n) (sums j hi))
   where
-    size-is : 8388608 * 2 ^ (275 - j) ≡ 2 ^ (298 - j)
-    size-is = sym (pow-add 2 23 (275 - j)) ∙ ap (λ (n : ℕ). 2 ^ n) (sums j hi)
-      where
-        sums : (j : ℕ) → j ≤ 275 → 23 + (275 - j) ≡ 298 - j
-        sums j h = omega arith
+    sums : (j : ℕ) → j ≤ 275 → 23 + (275 - j) ≡ 298 - j
+    sums j h = omega arith
 
-    is : Value binary32 (units binary32 false 8388608 (275 - j)) false (2 ^ (298 - j))
-    is =
-        subst (λ (n : ℕ). Value binary32 (units binary32 false 8388608 (275 - j)) false n) size-is
-        (units-val binary32 false 8388608 (275 - j) (lt-of-le-of-lt (le-of-eq size-is) (under j lo (omega arith))))
+-- a subnormal one: 1 shifted left by at most 22 places
+module _ (j : ℕ) (lo : 275 < j) where
+  few : 2 ^ (298 - j) ≤ 2 ^ 22
+  few = pow-mono (places j lo)
+    where
+      places : (j : ℕ) → 275 < j → 298 - j ≤ 22
+      places j l = omega arith
 
-    packed-fits : T (fits binary32 (units binary32 false 8388608 (275 - j)))
-    packed-fits =
-        subst (λ (y : Float). T (fits binary32 y))
-        (pack-is false 8388608 (275 - j) (record { most = lit≤ tt; range = omega arith; least = λ h. absurd (omega (arith, h)) }))
-        (ofBits-fits binary32 (0 + (275 - j) * 8388608 + 8388608))
+  shifted : 1 * 2 ^ (298 - j) % 4294967296 ≡ 2 ^ (298 - j)
+  shifted = ap (λ (n : ℕ). n % 4294967296) (one-mul (2 ^ (298 - j))) ∙ mod-eq-of-lt (lt-of-le-of-lt few (lit< tt))
+
+  pub subnormal-packs : Packs (1 * 2 ^ (298 - j) % 4294967296) 0
+  subnormal-packs = record { most = le-trans (le-of-eq shifted) (le-trans few (lit≤ tt)); range = lit≤ tt; least = λ h. refl }
+
+  pub power-subnormal : j ≤ 298 → units binary32 false (1 * 2 ^ (298 - j) % 4294967296) 0 ≡ powerOfTwo j
+  power-subnormal hi = power-packed j (1 * 2 ^ (298 - j) % 4294967296) 0 (omega arith) hi subnormal-packs (mul-one (1 * 2 ^ (298 - j) % 4294967296) ∙ shifted)
