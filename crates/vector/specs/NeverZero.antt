@@ -23,7 +23,7 @@ pub record NeverZero (v : Vec3) : Type 0 where
   pub numbers : FiniteVec v
   -- and not nearly zero either: the computed `length_squared` is between 0.99 and 1.01
   pub squared-length : AboutOne (lengthSquared v)
-  -- so no test is needed: `try_normalize` of the scaled vector answers a vector, and this is the one, within 15 times 2^-24 of length 1
+  -- so no test is needed: `try_normalize` of the scaled vector answers a vector, and this is the one; its exact squared length is within 15 times 2^-24 of 1
   pub answers : tryNormalize (scaled v) ≡ Unit (directionUnchecked v)
   pub unit : UnitWithin 15 (directionUnchecked v)
 

@@ -18,7 +18,7 @@ use Rattle.commands.proofs.DirectionOfLaws.{unit-direction}
 use Rattle.commands.proofs.table.EachLaws.{Each, each-at, _and_}
 use Rattle.commands.proofs.claim.SourceLaws.{Held, direction-there}
 
--- ---- the vectors of 22, 23 and 24 that is done
+-- ---- the vectors of a 22, 23 or 24 that is done
 module _ (s : Sources) where
   pub reflected-never : Held 22 (entryAt 22) s → NeverZero (reflect (s .a .numbers) (s .b .numbers))
   unfolding table entryAt
