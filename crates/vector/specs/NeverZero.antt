@@ -31,7 +31,7 @@ pub record NeverZero (v : Vec3) : Type 0 where
 pub record RaysNeverZero : Type 0 where
   -- 22
   pub reflected : (a b : Vec3) → Direction a → Direction b → NeverZero (reflect a b)
-  -- 23: an f32 u "from 0.25 to 4", and k not below zero, which is what refusal 8 lets pass
+  -- 23: an f32 u of 0.25 to 4, which refusal 5 lets pass, and k not below zero, which refusal 8 does
   pub refracted :
       (a b : Vec3) (u : Float) → Direction a → Direction b → T (fits binary32 u) → T (le quarter u) → T (le u four) → lt (refractK a b u) zer ≡ false → NeverZero (refract a b u)
   -- 24

@@ -22,7 +22,7 @@ impl Vec3 {
         self.scaled_by(b)
     }
 
-    // The direction of a vector that has one, which no test asks: of any other NaNs and zeros.
+    // The direction of a vector that has one. Nothing asks whether it has: of any other the numbers are NaNs and zeros.
     pub fn direction_unchecked(self) -> Vec3
         ensures { λ r. ⌜ r ≡ DirectionOf.directionUnchecked self ⌝ }
     {
