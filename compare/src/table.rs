@@ -1,32 +1,21 @@
 //! The table of a sitting: how often each command had each outcome, and the worst values; and how counts are written, here and elsewhere.
 
-use crate::outcomes::Outcome::{Done, ExactRoot, PlaneShown, Refused};
-use crate::outcomes::{can_have, Counts, Outcome, ABOVE, MALFORMED};
+use crate::outcomes::{can_have, ABOVE, EXACT, MALFORMED, PLANE};
 use crate::sheet::COMMANDS;
 use crate::tally::Tally;
 use std::fmt;
 
 /// The outcomes that there are: done, done with an answer of kind 5 and of kind 6, then in the order in which the documents have them checked.
-const ORDER: [Outcome; 13] = [
-    Done,
-    ExactRoot,
-    PlaneShown,
-    Refused(1),
-    Refused(2),
-    Refused(3),
-    Refused(11),
-    Refused(4),
-    Refused(5),
-    Refused(8),
-    Refused(7),
-    Refused(12),
-    Refused(6),
-];
+const ORDER: [usize; 13] = [0, EXACT, PLANE, 1, 2, 3, 11, 4, 5, 8, 7, 12, 6];
 
 /// The table, the worst values, and what should not have been.
 impl fmt::Display for Tally {
     fn fmt(&self, f: &mut fmt::Formatter) -> fmt::Result {
-        heads(f, &ORDER)?;
+        write!(f, "command      done   kind 5   kind 6")?;
+        for outcome in &ORDER[3..] {
+            write!(f, "{outcome:>9}")?;
+        }
+        writeln!(f)?;
         for (row, counts) in self.counts.iter().enumerate() {
             match row {
                 ABOVE => write!(f, "{:<9}", format!("above {}", COMMANDS - 1))?,
@@ -53,17 +42,8 @@ impl fmt::Display for Tally {
     }
 }
 
-/// The first line of a table: the heads of its columns.
-pub fn heads(f: &mut fmt::Formatter, order: &[Outcome]) -> fmt::Result {
-    write!(f, "command ")?;
-    for outcome in order {
-        write!(f, "{outcome:>9}")?;
-    }
-    writeln!(f)
-}
-
 /// The rest of a row of a table: how often it had each of these outcomes.
-pub fn outcomes(f: &mut fmt::Formatter, row: usize, counts: &Counts, order: &[Outcome]) -> fmt::Result {
+pub fn outcomes(f: &mut fmt::Formatter, row: usize, counts: &[u64], order: &[usize]) -> fmt::Result {
     for &outcome in order {
         match (counts[outcome], can_have(row, outcome)) {
             (0, false) => write!(f, "{:>9}", "-")?,

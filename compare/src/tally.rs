@@ -2,7 +2,7 @@
 
 use crate::check::Rust;
 use crate::exact::{dot, off_one, Size};
-use crate::outcomes::{can_have, Counts, Outcome, ABOVE, MALFORMED};
+use crate::outcomes::{can_have, outcome, ABOVE, MALFORMED, OUTCOMES};
 use crate::scales::Scales;
 use crate::sheet::lines::{read, write_answer};
 use crate::sheet::{changes, Answer, Command, Kind, Refusal, Row, Sheet, TAKE_BACK};
@@ -13,7 +13,7 @@ const DOT_BOUND: u32 = 16;
 
 pub struct Tally {
     sheet: Sheet,
-    pub counts: [Counts; MALFORMED + 1],
+    pub counts: [[u64; OUTCOMES]; MALFORMED + 1],
     /// How far the exact squared length of a direction or a normal was from 1, at most.
     pub length: Size,
     /// The largest exact dot product of two of the directions that a 24 read and wrote.
@@ -41,7 +41,7 @@ impl Rust for Tally {
 
 impl Default for Tally {
     fn default() -> Tally {
-        let counts = [Counts::default(); MALFORMED + 1];
+        let counts = [[0; OUTCOMES]; MALFORMED + 1];
         let (least, scales) = (Size::default(), Scales::default());
         Tally { sheet: Sheet::fresh(), counts, length: least, dot: least, scales, not_finite: 0, panics: Vec::new() }
     }
@@ -61,16 +61,15 @@ impl Tally {
     /// Answers the command of a line, or refuses a line that has none.
     pub fn answer(&mut self, command: Option<Command>) -> Answer {
         let Some(command) = command else {
-            let answer = Answer::refused(Refusal::Form);
-            self.counts[MALFORMED][Outcome::of(&answer)] += 1;
-            return answer;
+            self.counts[MALFORMED][Refusal::Form as usize] += 1;
+            return Answer::refused(Refusal::Form);
         };
         let read = self.sheet.rows().get(command.a as usize).map(|row| row.numbers());
         let Some(answer) = self.sheet.try_run(&command) else {
             self.panics.push(command);
             return Answer::refused(Refusal::Result);
         };
-        self.counts[(command.number as usize).min(ABOVE)][Outcome::of(&answer)] += 1;
+        self.counts[(command.number as usize).min(ABOVE)][outcome(&answer)] += 1;
         if answer.refusal == 0 && changes(command.number) {
             // 24 writes the row behind t too, and 33 may bring that one back
             let count = if matches!(command.number, 24 | TAKE_BACK) { 2 } else { 1 };
@@ -100,12 +99,12 @@ impl Tally {
     }
 
     /// The commands and the outcomes that they can have and did not.
-    pub fn missing(&self) -> Vec<(usize, Outcome)> {
+    pub fn missing(&self) -> Vec<(usize, usize)> {
         self.cells().filter(|&(row, outcome)| can_have(row, outcome) && self.counts[row][outcome] == 0).collect()
     }
 
     /// The commands and the outcomes that they had and should not.
-    pub fn impossible(&self) -> Vec<(usize, Outcome)> {
+    pub fn impossible(&self) -> Vec<(usize, usize)> {
         self.cells().filter(|&(row, outcome)| !can_have(row, outcome) && self.counts[row][outcome] != 0).collect()
     }
 
@@ -116,7 +115,7 @@ impl Tally {
         bounded && as_it_should_be && self.scales.sound()
     }
 
-    fn cells(&self) -> impl Iterator<Item = (usize, Outcome)> {
-        (0..self.counts.len()).flat_map(|row| Outcome::all().map(move |outcome| (row, outcome)))
+    fn cells(&self) -> impl Iterator<Item = (usize, usize)> {
+        (0..self.counts.len()).flat_map(|row| (0..OUTCOMES).map(move |outcome| (row, outcome)))
     }
 }

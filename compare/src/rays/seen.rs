@@ -4,10 +4,9 @@
 use super::ratios::{k, LEAST, MOST, ONE};
 use super::rows::{Ray, BOUND};
 use crate::exact::{dot, is_short, off_one, Size};
-use crate::outcomes::Outcome::{Done, Refused};
-use crate::outcomes::{can_have, Counts, Outcome};
+use crate::outcomes::{can_have, OUTCOMES};
 use crate::sheet::Command;
-use crate::table::{heads, named, outcomes};
+use crate::table::{named, outcomes};
 use std::fmt;
 
 /// The commands.
@@ -15,7 +14,7 @@ const FIRST: u32 = 22;
 const COMMANDS: usize = 3;
 
 /// Their outcomes, in the order of the table. 7 is none of them.
-const ORDER: [Outcome; 6] = [Done, Refused(3), Refused(4), Refused(5), Refused(8), Refused(7)];
+const ORDER: [usize; 6] = [0, 3, 4, 5, 8, 7];
 
 /// Demand 3: exact dot products of 24's directions are at most 2^-16.
 const DOT_BOUND: u32 = 16;
@@ -57,7 +56,7 @@ const JUST: f32 = 1.0 / 1048576.0;
 const ABOUT: f32 = 1.0 / 1024.0;
 
 pub struct Seen {
-    outcomes: [Counts; COMMANDS],
+    outcomes: [[u64; OUTCOMES]; COMMANDS],
     sources: [u64; SOURCES.len()],
     ratios: [u64; RATIOS.len()],
     angles: [u64; ANGLES.len()],
@@ -72,7 +71,7 @@ pub struct Seen {
 impl Default for Seen {
     fn default() -> Seen {
         Seen {
-            outcomes: [Counts::default(); COMMANDS],
+            outcomes: [[0; OUTCOMES]; COMMANDS],
             sources: [0; SOURCES.len()],
             ratios: [0; RATIOS.len()],
             angles: [0; ANGLES.len()],
@@ -87,8 +86,7 @@ impl Default for Seen {
 impl Seen {
     /// Counts a command: its refusal or 0, what the rows a and b held before it, and what it wrote.
     pub fn note(&mut self, command: &Command, refusal: u32, [a, b]: [Ray; 2], written: &[Ray]) {
-        let outcome = if refusal == 0 { Done } else { Refused(refusal) };
-        self.outcomes[(command.number - FIRST) as usize][outcome] += 1;
+        self.outcomes[(command.number - FIRST) as usize][refusal as usize] += 1;
         if command.number == 23 && matches!(refusal, 0 | 5 | 8) {
             count(&mut self.ratios, ratio_has(a, b, command.values[0]));
         }
@@ -118,7 +116,7 @@ impl Seen {
 
     /// How many commands there were.
     pub fn all(&self) -> u64 {
-        self.outcomes.iter().map(Counts::all).sum()
+        self.outcomes.iter().flatten().sum()
     }
 
     /// Whether rows were as demand 3 has them, and, if the commands were enough, each outcome and each sort was seen.
@@ -141,9 +139,11 @@ impl Seen {
     }
 
     /// The commands with their outcomes and how often they had them.
-    fn cells(&self) -> impl Iterator<Item = (usize, Outcome, u64)> + '_ {
+    fn cells(&self) -> impl Iterator<Item = (usize, usize, u64)> + '_ {
         let rows = self.outcomes.iter().enumerate();
-        rows.flat_map(|(row, counts)| Outcome::all().map(move |outcome| (row + FIRST as usize, outcome, counts[outcome])))
+        rows.flat_map(|(row, counts)| {
+            counts.iter().enumerate().map(move |(outcome, &count)| (row + FIRST as usize, outcome, count))
+        })
     }
 }
 
@@ -197,7 +197,9 @@ fn axis_has([x, y, z]: Ray) -> [bool; AXES.len()] {
 /// The table of outcomes, the sorts, and the worst rows.
 impl fmt::Display for Seen {
     fn fmt(&self, f: &mut fmt::Formatter) -> fmt::Result {
-        heads(f, &ORDER)?;
+        write!(f, "command      done")?;
+        ORDER[1..].iter().try_for_each(|outcome| write!(f, "{outcome:>9}"))?;
+        writeln!(f)?;
         for (place, counts) in self.outcomes.iter().enumerate() {
             let row = place + FIRST as usize;
             write!(f, "{row:<8}")?;
@@ -286,7 +288,7 @@ mod tests {
         assert!(!noted(24, 0, [x, y], &[y, x]).sound() && !noted(24, 0, [x, y], &[y, [0.0, 1.0 / 32768.0, 1.0]]).sound());
         assert!(!noted(22, 7, [x, y], &[]).sound() && !noted(22, 8, [x, y], &[]).sound());
         let mut seen = noted(22, 0, [x, y], &[x]);
-        seen.outcomes[0][Done] = ENOUGH;
+        seen.outcomes[0][0] = ENOUGH;
         assert!(seen.missing() > 0 && !seen.sound());
     }
 }

@@ -1,4 +1,6 @@
 // The bench for Rust and C, as a static library: functions on numbers, lists of commands, and a sheet that a program keeps in words of its own.
+#![tactic(auto)]
+
 ghost use Rattle.std.specs.Prelude.{◌≡◌, [], ◌∷◌};
 ghost use Rattle.std.specs.Float.Ieee as Ieee;
 ghost use Rattle.std.specs.Float.{binary32};
@@ -7,9 +9,9 @@ ghost use Rattle.scalar.specs.ExactRoot as ExactRoot;
 ghost use Rattle.scalar.specs.Fused as Fused;
 ghost use Rattle.scalar.specs.Integral as Integral;
 ghost use Rattle.vector.specs.Masks.{bit};
+ghost use Rattle.commands.specs.Fields.{command_of};
 ghost use Rattle.sheet.specs.Words.{state_words};
 ghost use Rattle.sheet.specs.Run.{stepped_at, lent_step_at, Runs, RunsAll};
-ghost use Rattle.stream.specs.Format.{in_bits};
 ghost use Rattle.stream.specs.Responses.{Responds};
 ghost use Rattle.capi.specs.Fresh.{freshened, fresh_of};
 
@@ -29,7 +31,7 @@ pub extern "C" fn bench_sqrt_is_exact(x: f32) -> u32
     ensures { result ≡ bit (ExactRoot.exact_root x) }
 {
     let marked = scalar::root::sqrt_and_exactness(x);
-    if marked.exact { 1 } else { 0 }
+    marked.exact as u32
 }
 
 #[unsafe(no_mangle)]
@@ -115,7 +117,7 @@ pub extern "C" fn bench_step(
     w: u32,
     answer: &mut [u32],
 ) -> u32
-    ensures { stepped_at state.new answer.new result ≡ lent_step_at state.old (number ∷ t ∷ a ∷ b ∷ u ∷ v ∷ w ∷ []) answer.old 0 }
+    ensures { stepped_at state.new answer.new result ≡ lent_step_at state.old (command_of (number ∷ t ∷ a ∷ b ∷ u ∷ v ∷ w ∷ [])) answer.old 0 }
 {
     let seven = [number, t, a, b, u, v, w];
     sheet::step::step_at(state, &seven, 0, answer, 0)
@@ -125,7 +127,7 @@ pub extern "C" fn bench_step(
 // where a command has too few words for a sheet; 9 too where there are fewer than 43 bytes, and then nothing is run or written.
 #[unsafe(no_mangle)]
 pub extern "C" fn bench_respond(state: &mut [u32], line: &[u8], answer: &mut [u8]) -> u32
-    ensures { Responds in_bits state.old line.now answer.old result state.new answer.new }
+    ensures { Responds state.old line.now answer.old result state.new answer.new }
 {
     stream::respond::respond(state, line, answer)
 }

@@ -43,23 +43,6 @@ leading_zero l = nat_lt 1 (length l) && slice_index l 0 == 48
 unfoldable pub number : List ℕ → Reading
 number l = cond (length l == 0) Ill (cond (leading_zero l) Ill (value l))
 
--- ---- the answer in document 01's numbers
-
--- "1, .. a field ill formed"
-abbrev pub ill_formed : ℕ
-ill_formed = 1
-
--- a refusal's number, 0 for none, and a number, 0 where it is refused ("Returned: the number, ..
--- zeros")
-pub record FieldAnswer : Type 0 where
-  pub refusal : ℕ
-  pub value : ℕ
-
--- the paper's number and value for each case of a reading
-unfoldable pub answer_of : Reading → FieldAnswer
-answer_of (Value n) = record { refusal = 0; value = n }
-answer_of Ill = record { refusal = ill_formed; value = 0 }
-
 -- ---- a number written
 
 -- the last digit of n, or a blank where n is 0

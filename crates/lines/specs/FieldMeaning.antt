@@ -1,7 +1,7 @@
 -- What the definitions of Field mean: document 01's sentence about fields as a statement over bytes, and that writing and reading undo each other.
-use Rattle.std.specs.Prelude.{◌≡◌, ℕ, ◌^◌, ◌<◌, ◌≤◌, true, cond, not, ◌&&◌, ◌↔◌, List, ◌++◌, length, replicate, ◌==◌, nat_le, slice_index_or}
+use Rattle.std.specs.Prelude.{◌≡◌, ℕ, ◌^◌, ◌<◌, ◌≤◌, true, ◌↔◌, List, ◌++◌, length, replicate, slice_index_or}
 use Rattle.lines.specs.declared.field.Reading.TheVariants.{Value}
-use Rattle.lines.specs.Field.{blank, digits, decimal, value_from, limit, leading_zero, number, ill_formed, FieldAnswer, written}
+use Rattle.lines.specs.Field.{blank, digits, decimal, value_from, number, written}
 
 -- "decimal digits [..], at least one, no leading zero but in 0 alone"
 pub record Numeral (ds : List ℕ) (n : ℕ) : Type 0 where
@@ -21,13 +21,6 @@ pub record IsField (l : List ℕ) (n : ℕ) : Type 0 where
 -- a field gives a number exactly if it is a field of that number
 abbrev pub ReadsFields : Type 0
 ReadsFields = (l : List ℕ) (n : ℕ) → (number (digits l) ≡ Value n) ↔ IsField l n
-
--- the sentence in numbers: "decimal digits [..], at least one, no leading zero but in 0 alone", of
--- a number up to the limit, or refusal 1
-unfoldable pub number_or_one : List ℕ → FieldAnswer
-number_or_one ds =
-    cond (not (length ds == 0) && (not (leading_zero ds) && (decimal ds && nat_le (value_from 0 ds) limit)))
-    (record { refusal = 0; value = value_from 0 ds }) (record { refusal = ill_formed; value = 0 })
 
 -- n has room in w columns
 pub record HasRoom (w n : ℕ) : Type 0 where

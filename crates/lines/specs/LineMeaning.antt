@@ -3,12 +3,8 @@ use Rattle.std.specs.Prelude.{◌≡◌, ℕ, List, [], ◌∷◌, length, ◌�
 use Rattle.std.proofs.Math.Option.{some}
 use Rattle.lines.specs.FieldMeaning.{HasRoom}
 use Rattle.lines.specs.Columns.{text}
-use Rattle.lines.specs.CommandLine.{widths, line_length, numbers}
+use Rattle.lines.specs.CommandLine.{widths, numbers}
 use Rattle.lines.specs.AnswerLine.{answer_line}
-
--- "1, not 45 bytes before a line feed": a line that gives seven numbers has 45
-abbrev pub WellFormedLength : Type 0
-WellFormedLength = (l ns : List ℕ) → numbers l ≡ some ns → length l ≡ line_length
 
 -- no byte is a line feed
 unfoldable pub NoLineFeed : List ℕ → Type 0

@@ -1,14 +1,12 @@
 // One field: its digits after the blanks, the number that they give, and a number written.
 ghost use Rattle.std.specs.Prelude.{◌≡◌, ◌+◌, ◌/◌, ◌%◌, ◌<◌, ◌≤◌, length};
 ghost use Rattle.lines.specs.Field as Field;
-ghost use Rattle.lines.specs.FieldMeaning as Meaning;
 ghost use Rattle.lines.specs.ColumnParts as ColumnParts;
 
 use crate::ten_digits::put_ten;
 use std::num::wrapping_sub_u64;
 
-// The number that a field's digits give, or the word that they are ill formed. specs/Field gives
-// the paper's number and value for each (`answer_of`).
+// The number that a field's digits give, or the word that they are ill formed.
 #[derive(Drop)]
 pub enum Reading {
     Value(u32),
@@ -31,8 +29,7 @@ pub fn digits(field: &[u8]) -> &[u8]
 
 // The number that decimal digits give.
 pub fn number(digits: &[u8]) -> Reading
-    ensures value { result ≡ Field.number digits.now }
-    ensures result_value { Field.answer_of result ≡ Meaning.number_or_one digits.now }
+    ensures { result ≡ Field.number digits.now }
 {
     if digits.len() == 0 {
         return Reading::Ill;

@@ -1,4 +1,6 @@
 // Answers each call line of standard input: a function's number and its arguments.
+#![tactic(auto)]
+
 mod answer;
 mod call;
 mod flags;

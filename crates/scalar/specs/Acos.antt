@@ -29,10 +29,6 @@ clamped d = cond (lt d zer) zer d
 abbrev pub acos_at : Bool → Float → Float → Float
 acos_at nonnegative x r = let y = mul binary32 (poly x) r in cond nonnegative y (sub binary32 (bits 0x40490fdb) y)
 
--- v >= 0.0
-abbrev pub is_nonnegative : Float → Bool
-is_nonnegative v = le zer v
-
--- x = abs(v), the root of 1.0 - x
+-- v >= 0.0, x = abs(v), the root of 1.0 - x
 unfoldable pub acos_approx : Float → Float
-acos_approx v = acos_at (is_nonnegative v) (abs v) (root (clamped (sub binary32 one (abs v))))
+acos_approx v = acos_at (le zer v) (abs v) (root (clamped (sub binary32 one (abs v))))

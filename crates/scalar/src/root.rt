@@ -71,7 +71,7 @@ fn other_root(x: f32) -> f32
         Parts::Nan => x,
         Parts::Inf(s) => {
             if s {
-                return 0.0 / 0.0; // -infinity
+                return 0.0 / 0.0;
             }
             x
         }
@@ -80,7 +80,7 @@ fn other_root(x: f32) -> f32
                 return x;
             }
             if s {
-                return 0.0 / 0.0; // below zero
+                return 0.0 / 0.0;
             }
             root_of(q, k, shift_of(q, k))
         }

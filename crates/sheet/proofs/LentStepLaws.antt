@@ -5,8 +5,7 @@ use mathlib.Core.Bool.{Bool, true, false, cond}
 use mathlib.Core.List.{List}
 use native.Mathlib.Omega.{arith}
 use borrow.Author.Tests.{lt-ltb, le-ltb}
-use lib.Dec.{ltb}
-use lib.ListN.{length, drop, length-drop}
+use lib.ListN.{length}
 use lib.Ieee.{Float}
 use lib.Seq.{sets}
 use Rattle.vector.specs.declared.vec3.Vec3.{Vec3}
@@ -17,16 +16,16 @@ use Rattle.commands.specs.declared.command.Answer.{Answer}
 use Rattle.commands.specs.declared.command.Answer.TheVariants.{Shown}
 use Rattle.commands.specs.declared.effects.Effect.{Effect}
 use Rattle.commands.specs.declared.effects.Effect.TheVariants.{Tell, Put, PutTwo, Restore}
-use Rattle.commands.specs.Codes.{row_count, direction_kind, ill_formed, lent_too_short, history_empty}
+use Rattle.commands.specs.Codes.{row_count, direction_kind, lent_too_short, history_empty}
 use Rattle.commands.specs.Rows.{ModelRow, row, direction, row_of, stored_row, row_at}
-use Rattle.commands.specs.Fields.{read_of, command_of}
+use Rattle.commands.specs.Fields.{read_of}
 use Rattle.commands.specs.Answers.{refused, answer_of, numbers_of}
 use Rattle.commands.specs.Effects.{ModelEffect, Restores, Tells, command_effect, effect_by}
 use Rattle.commands.specs.Model.{Stepped, stepped, applied, restored, is_some, read_at, effect_on}
 use Rattle.sheet.specs.Rows.{put_row}
 use Rattle.sheet.specs.History.{remembered, taken_back}
 use Rattle.sheet.specs.Words.{state_words, model_of, words_after, undone, lent_step}
-use Rattle.sheet.specs.Run.{stepped_at, lent_step_of, lent_step_at}
+use Rattle.sheet.specs.Run.{stepped_at, lent_step_at}
 use Rattle.commands.proofs.CommandLaws.{InRange, target_in_range, effect_rows}
 use Rattle.commands.proofs.table.UnreadLaws.{Source, A, B, U, number_in, row_in}
 use Rattle.commands.proofs.history.EmptyLaws.{unless_empty, by_history}
@@ -142,65 +141,28 @@ pub put_long : (w w' : List ℕ) (i : ℕ) (r : ModelRow) → state_words ≤ le
 put_long w w' i r l e = omega (arith, ap length e, length_put w i r, l)
 
 -- ---- in numbers
--- seven numbers are there from a place on, or not
-pub seven_there : (l : List ℕ) (at : ℕ) → at + 7 ≤ length l → 7 ≤ length (drop at l)
-seven_there l at h = omega (arith, length-drop at l)
-
-pub seven_missing : (l : List ℕ) (at : ℕ) → length l < at + 7 → length (drop at l) < 7
-seven_missing l at h = omega (arith, length-drop at l)
-
-module _ (w l : List ℕ) where
-  -- no command, and a command
-  pub of_few : length l < 7 → stepped w (refused (cond (ltb (length w) state_words) lent_too_short ill_formed)) ≡ lent_step_of w l
-  unfolding lent_step_of
-  of_few h = rw (lt-ltb (length l) 7 h) (go (ltb (length w) state_words))
-    where
-      go :
-          (b : Bool)
-          → stepped w (refused (cond b lent_too_short ill_formed)) ≡ cond b (stepped w (refused lent_too_short)) (stepped w (refused ill_formed))
-      go true = refl
-      go false = refl
-
-  pub of_seven : 7 ≤ length l → lent_step w (command_of l) ≡ lent_step_of w l
-  unfolding lent_step_of lent_step
-  of_seven h = rw (le-ltb (length l) 7 h) (twice (ltb (length w) state_words) _ _)
-    where
-      twice : (b : Bool) (x y : Stepped (List ℕ)) → cond b x y ≡ cond b x (cond b x y)
-      twice true x y = refl
-      twice false x y = refl
-
-module _ (w l out : List ℕ) (at : ℕ) where
-  pub at_short : length out < at + 6 → stepped_at w out lent_too_short ≡ lent_step_at w l out at
+module _ (w : List ℕ) (c : Command) (out : List ℕ) (at : ℕ) where
+  pub at_short : length out < at + 6 → stepped_at w out lent_too_short ≡ lent_step_at w c out at
   unfolding lent_step_at
   at_short h = simp (lt-ltb (length out) (at + 6) h)
 
   pub at_room :
       at + 6 ≤ length out
-      → stepped_at (lent_step_of w l).state (sets out at (numbers_of (lent_step_of w l).answer)) (lent_step_of w l).answer.refusal ≡ lent_step_at w l out at
+      → stepped_at (lent_step w c).state (sets out at (numbers_of (lent_step w c).answer)) (lent_step w c).answer.refusal ≡ lent_step_at w c out at
   unfolding lent_step_at
   at_room h = simp (le-ltb (length out) (at + 6) h)
 
-  -- seven numbers, and room for the answer
-  pub at_seven :
-      7 ≤ length l
-      → at + 6 ≤ length out
-      → let o = lent_step w (command_of l) in stepped_at o.state (sets out at (numbers_of o.answer)) o.answer.refusal ≡ lent_step_at w l out at
-  at_seven seven room = put (of_seven w l seven) ∙ at_room room
-    where
-      put :
-          {o p : Stepped (List ℕ)} → o ≡ p
-          → stepped_at o.state (sets out at (numbers_of o.answer)) o.answer.refusal ≡ stepped_at p.state (sets out at (numbers_of p.answer)) p.answer.refusal
-      put = ap (λ (o : Stepped (List ℕ)). stepped_at o.state (sets out at (numbers_of o.answer)) o.answer.refusal)
-
 pub done_at :
-    (w w' l out out' : List ℕ) (at : ℕ) (x : Answer) (r : ℕ)
+    (w w' out out' : List ℕ) (at : ℕ) (c k : Command) (x : Answer) (r : ℕ)
     → at + 6 ≤ length out
-    → stepped w' (answer_of x) ≡ lent_step_of w l
+    → c ≡ k
+    → stepped w' (answer_of x) ≡ lent_step w c
     → out' ≡ sets out at (numbers_of (answer_of x))
     → r ≡ (answer_of x).refusal
-    → stepped_at w' out' r ≡ lent_step_at w l out at
-done_at w w' l out out' at x r room es eo er =
-    ap (λ (k : List ℕ). stepped_at w' k r) eo
+    → stepped_at w' out' r ≡ lent_step_at w k out at
+done_at w w' out out' at c k x r room ec es eo er =
+    ap (λ (l : List ℕ). stepped_at w' l r) eo
     ∙ ap (stepped_at w' (sets out at (numbers_of (answer_of x)))) er
     ∙ ap (λ (o : Stepped (List ℕ)). stepped_at o.state (sets out at (numbers_of o.answer)) o.answer.refusal) es
-    ∙ at_room w l out at room
+    ∙ at_room w c out at room
+    ∙ ap (λ (d : Command). lent_step_at w d out at) ec

@@ -22,7 +22,7 @@ use Rattle.commands.proofs.ClaimLaws.{model_claim}
 use Rattle.sheet.proofs.words.WordLaws.{zeros_fresh}
 use Rattle.sheet.proofs.RunByLaws.{run_snoc_state, run_snoc_answers}
 use Rattle.sheet.proofs.LentLaws.{run_lent, length_run, lent_claim}
-use Rattle.sheet.proofs.LentStepLaws.{seven_there, at_seven}
+use Rattle.sheet.proofs.LentStepLaws.{at_room}
 
 -- ---- lists
 module _ {S : Type 0} (f : S → Command → Stepped S) where
@@ -82,17 +82,12 @@ module _ {w₀ cs out₀ w out : List ℕ} {n i : ℕ} (h : Held w₀ cs out₀ 
         h.room,
       )
 
-  -- the next command is there, and room for its answer
-  pub held_fits : i < n → (i * 7 + 7 ≤ length cs) × (i * 6 + 6 ≤ length out)
-  held_fits lt = (omega (arith, h.whole, lt), omega (arith, length_answers, h.room, lt))
-
   pub held_more :
-      (w' out' : List ℕ) (r : ℕ) → i < n → stepped_at w' out' r ≡ lent_step_at w (drop (i * 7) cs) out (i * 6) → Held w₀ cs out₀ n w' out' (i + 1)
+      (w' out' : List ℕ) (r : ℕ) → i < n → stepped_at w' out' r ≡ lent_step_at w (command_of (drop (i * 7) cs)) out (i * 6) → Held w₀ cs out₀ n w' out' (i + 1)
   held_more w' out' r lt st =
       let c = command_of (drop (i * 7) cs) in
       let x = (lent_step (after w₀ cs i).state c).answer in
-      let fits = held_fits lt in
-      let done = st ∙ sym (at_seven w (drop (i * 7) cs) out (i * 6) (seven_there cs (i * 7) fits.0) fits.1) in
+      let done = st ∙ sym (at_room w c out (i * 6) (omega (arith, length_answers, h.room, lt))) in
       let room : length (numbers_of x) ≤ length (drop (i * 6) out₀) = omega (arith, length-drop (i * 6) out₀, h.room, lt) in
       let six : (i + 1) * 6 ≡ i * 6 + 6 = omega arith in
       let next : after w₀ cs (i + 1) ≡ lent_run w₀ (commands_of i cs ++ (c ∷ [])) = rw (add-one i, commands_snoc i cs) in

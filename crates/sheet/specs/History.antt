@@ -1,8 +1,5 @@
--- What a sheet's words remember: behind the rows a ring of 64 entries, each the rows that a command
--- overwrote, as they were; then the place in the ring that is written next. An entry with no rows
--- is none. Back from the present rows, each entry gives the rows before its command. This says
--- where each word of the ring lies, and need not be believed: `step_lent` (proofs/LentLaws) ties
--- the words to the model, which has no ring.
+-- What a sheet's words remember: behind the rows a ring of 64 entries, each the rows that a command overwrote, as they were; then the place in the ring that is
+-- written next. An entry with no rows is none. Back from the present rows, each entry gives the rows before its command.
 use Rattle.std.specs.Prelude.{ℕ, zero, suc, ◌+◌, ◌-◌, ◌*◌, ◌%◌, cond, List, [], ◌∷◌, eqb, get_or, take, drop}
 use Rattle.std.proofs.lemmas.List.Edits.{sets}
 use Rattle.commands.specs.Codes.{history_depth}

@@ -4,23 +4,13 @@ use Rattle.std.proofs.lemmas.List.Edits.{sets}
 use Rattle.commands.specs.declared.command.Command.{Command}
 use Rattle.commands.specs.Codes.{ill_formed, lent_too_short}
 use Rattle.commands.specs.Fields.{command_of}
-use Rattle.commands.specs.Answers.{ModelAnswer, refused, numbers_of}
+use Rattle.commands.specs.Answers.{ModelAnswer, numbers_of}
 use Rattle.commands.specs.Rows.{fresh}
-use Rattle.commands.specs.Model.{Stepped, stepped, run_from}
+use Rattle.commands.specs.Model.{run_from}
 use Rattle.commands.specs.Claim.{Claim}
 use Rattle.sheet.specs.Words.{state_words, model_of, lent_step, lent_run}
 
--- ---- one command
--- on lent words, as the first seven of the numbers give it. "Checked in the order 9, 1, ..": 9
--- where the words are too few for a sheet, then 1 where there are fewer than seven numbers; both
--- leave the words as they are
-unfoldable pub lent_step_of : List ℕ → List ℕ → Stepped (List ℕ)
-lent_step_of w l =
-    cond (ltb (length w) state_words) (stepped w (refused lent_too_short))
-    (cond (ltb (length l) 7) (stepped w (refused ill_formed)) (lent_step w (command_of l)))
-
--- the same, its answer's six numbers put to the places from `at` on, and its refusal; 9 before all
--- else where these places are too few, and then nothing is run or written
+-- one command on lent words, its answer's six numbers put to the places from `at` on, and its refusal; nothing is run where these places are too few
 pub record SteppedAt : Type 0 where
   pub state : List ℕ
   pub out : List ℕ
@@ -29,12 +19,11 @@ pub record SteppedAt : Type 0 where
 abbrev pub stepped_at : List ℕ → List ℕ → ℕ → SteppedAt
 stepped_at w out k = record { state = w; out = out; refusal = k }
 
-unfoldable pub lent_step_at : List ℕ → List ℕ → List ℕ → ℕ → SteppedAt
-lent_step_at w l out at =
-    let o = lent_step_of w l in
+unfoldable pub lent_step_at : List ℕ → Command → List ℕ → ℕ → SteppedAt
+lent_step_at w c out at =
+    let o = lent_step w c in
     cond (ltb (length out) (at + 6)) (stepped_at w out lent_too_short) (stepped_at o.state (sets out at (numbers_of o.answer)) o.answer.refusal)
 
--- ---- a list
 -- the first k commands
 unfoldable pub commands_of : ℕ → List ℕ → List Command
 commands_of zero l = []

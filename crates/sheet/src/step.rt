@@ -1,17 +1,16 @@
 // One command, in place: its refusal or its effect, and the rows that it writes or brings back. No other function writes rows.
-ghost use Rattle.std.specs.Prelude.{◌≡◌, cond, ◌+◌, ◌≤◌, ltb, length, drop};
-ghost use Rattle.commands.specs.Codes.{ill_formed, lent_too_short};
-ghost use Rattle.commands.specs.Answers.{refused, answer_of};
+ghost use Rattle.std.specs.Prelude.{◌≡◌, ◌≤◌, length, drop};
+ghost use Rattle.commands.specs.Answers.{answer_of};
 ghost use Rattle.commands.specs.Model.{stepped};
 ghost use Rattle.sheet.specs.Words.{state_words, undone, lent_step};
+ghost use Rattle.commands.specs.Fields.{command_of};
 ghost use Rattle.sheet.specs.Run.{stepped_at, lent_step_at};
 
 use crate::answer::{put_answer, refusal_of};
-use crate::given::{has, seven_at};
 use crate::history::{remember_one, remember_two, remembers, restore};
 use crate::rows::{STATE_WORDS, put_row, row_at, stored_at};
-use commands::codes::{DIRECTION, HISTORY_EMPTY, ILL_FORMED, LENT_TOO_SHORT};
-use commands::command::{Answer, Command};
+use commands::codes::{DIRECTION, HISTORY_EMPTY, LENT_TOO_SHORT};
+use commands::command::{Answer, Command, command_at};
 use commands::effects::{Effect, effect_of};
 
 // 33: takes back the latest command that is remembered. "With nothing remembered [it] is refused by 11".
@@ -68,45 +67,18 @@ pub fn step(state: &mut [u32], c: Command) -> Answer
 }
 
 // The same in numbers, with no struct and no enum across the call: the seven from `from` on give the command, and its answer's six go to the places from `at` on.
-// Gives the answer's refusal.
-pub(crate) fn step_unchecked(
-    state: &mut [u32],
-    numbers: &[u32],
-    from: usize,
-    out: &mut [u32],
-    at: usize,
-) -> u32
-    requires { (from + 7 ≤ length numbers.now) × (at + 6 ≤ length out.old) }
-    ensures { stepped_at state.new out.new result ≡ lent_step_at state.old (drop from numbers.now) out.old at }
+// Gives the answer's refusal; 9 where there are not so many places, and then nothing is run.
+pub fn step_at(state: &mut [u32], numbers: &[u32], from: usize, out: &mut [u32], at: usize) -> u32
+    ensures { stepped_at state.new out.new result ≡ lent_step_at state.old (command_of (drop from numbers.now)) out.old at }
 {
-    let c = seven_at(numbers, from);
+    if out.len() < 6 {
+        return LENT_TOO_SHORT;
+    }
+    if out.len() - 6 < at {
+        return LENT_TOO_SHORT;
+    }
+    let c = command_at(numbers, from);
     let x = step(state, c);
     put_answer(out, at, x);
     refusal_of(x)
-}
-
-// The answer where there is no command: 9 where the words are too few for a sheet, else 1.
-fn no_command(words: usize) -> Answer
-    ensures { answer_of result ≡ refused (cond (ltb words state_words) lent_too_short ill_formed) }
-{
-    if words < STATE_WORDS {
-        return Answer::Refused(LENT_TOO_SHORT);
-    }
-    Answer::Refused(ILL_FORMED)
-}
-
-// The same for any lengths. Where fewer than six places are lent, it gives 9, and nothing is run or
-// written; where fewer than seven numbers are there, nothing is run.
-pub fn step_at(state: &mut [u32], numbers: &[u32], from: usize, out: &mut [u32], at: usize) -> u32
-    ensures { stepped_at state.new out.new result ≡ lent_step_at state.old (drop from numbers.now) out.old at }
-{
-    if has(out.len(), at, 6) {
-        if has(numbers.len(), from, 7) {
-            return step_unchecked(state, numbers, from, out, at);
-        }
-        let x = no_command(state.len());
-        put_answer(out, at, x);
-        return refusal_of(x);
-    }
-    LENT_TOO_SHORT
 }

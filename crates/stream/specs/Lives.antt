@@ -10,9 +10,9 @@ use Rattle.commands.specs.Fields.{command_of}
 use Rattle.commands.specs.Answers.{ModelAnswer, refused}
 use Rattle.commands.specs.Claim.{Sound, AllWell, Claim}
 use Rattle.sheet.specs.Words.{fresh_words, state_words, model_of, lent_step}
+use Rattle.lines.specs.CommandLine.{numbers}
 use Rattle.lines.specs.AnswerLine.{answer_length}
-use Rattle.stream.specs.Format.{Format}
-use Rattle.stream.specs.Responses.{Responds}
+use Rattle.stream.specs.Responses.{answer_text, Responds}
 
 -- ---- calls
 -- one call of `respond`: the line and the lent bytes before it; its result, and the words and the lent bytes after it
@@ -24,13 +24,13 @@ pub record LineCall : Type 0 where
   pub after : List ℕ
 
 -- its contract, on words
-abbrev pub RespondKept : Format → List ℕ → LineCall → Type 0
-RespondKept f w c = Responds f w c.line c.before c.refusal c.words c.after
+abbrev pub RespondKept : List ℕ → LineCall → Type 0
+RespondKept w c = Responds w c.line c.before c.refusal c.words c.after
 
 -- calls from the words w to the words w', each on the words that the last one left
-pub data LineCalls (f : Format) : List ℕ → List LineCall → List ℕ → Type 0 where
-  start : {w : List ℕ} → LineCalls f w [] w
-  next : {w w' : List ℕ} {calls : List LineCall} (c : LineCall) → RespondKept f w c → LineCalls f c.words calls w' → LineCalls f w (c ∷ calls) w'
+pub data LineCalls : List ℕ → List LineCall → List ℕ → Type 0 where
+  start : {w : List ℕ} → LineCalls w [] w
+  next : {w w' : List ℕ} {calls : List LineCall} (c : LineCall) → RespondKept w c → LineCalls c.words calls w' → LineCalls w (c ∷ calls) w'
 
 -- ---- what they come to
 -- "9, fewer than 43 bytes lent for an answer line, the command not being run and no byte written"
@@ -41,52 +41,52 @@ pub record Short (w : List ℕ) (c : LineCall) : Type 0 where
   pub bytes_kept : c.after ≡ c.before
 
 -- an answer shown: "Longer buffers stay unchanged past their first 43 bytes"
-pub record Shows (f : Format) (c : LineCall) (x : ModelAnswer) : Type 0 where
+pub record Shows (c : LineCall) (x : ModelAnswer) : Type 0 where
   pub room : answer_length ≤ length c.before
-  pub told : c.refusal ≡ (f.show x).refusal
-  pub answer_line : c.after ≡ (f.show x).text ++ drop answer_length c.before
+  pub told : c.refusal ≡ x.refusal
+  pub answer_line : c.after ≡ answer_text x ++ drop answer_length c.before
 
 -- the calls from the words w run these commands, and get these answers
-pub data Life (f : Format) : List ℕ → List LineCall → List Command → List ModelAnswer → Type 0 where
-  over : {w : List ℕ} → Life f w [] [] []
+pub data Life : List ℕ → List LineCall → List Command → List ModelAnswer → Type 0 where
+  over : {w : List ℕ} → Life w [] [] []
   -- refused by 9
   short :
       {w : List ℕ} {c : LineCall} {calls : List LineCall} {cs : List Command} {xs : List ModelAnswer}
       → Short w c
-      → Life f w calls cs xs
-      → Life f w (c ∷ calls) cs xs
+      → Life w calls cs xs
+      → Life w (c ∷ calls) cs xs
   -- refused by 1
   ill :
       {w : List ℕ} {c : LineCall} {calls : List LineCall} {cs : List Command} {xs : List ModelAnswer}
-      → f.read c.line ≡ none
-      → Shows f c (refused ill_formed)
+      → numbers c.line ≡ none
+      → Shows c (refused ill_formed)
       → c.words ≡ w
-      → Life f w calls cs xs
-      → Life f w (c ∷ calls) cs xs
+      → Life w calls cs xs
+      → Life w (c ∷ calls) cs xs
   -- and any other
   runs :
       {w ns : List ℕ} {c : LineCall} {calls : List LineCall} {cs : List Command} {x : ModelAnswer} {xs : List ModelAnswer}
-      → f.read c.line ≡ some ns
-      → Shows f c x
-      → Life f c.words calls cs xs
-      → Life f w (c ∷ calls) (command_of ns ∷ cs) (x ∷ xs)
+      → numbers c.line ≡ some ns
+      → Shows c x
+      → Life c.words calls cs xs
+      → Life w (c ∷ calls) (command_of ns ∷ cs) (x ∷ xs)
 
 -- their list of commands, and demand 3's claim of it
-pub record Lived (f : Format) (start : State) (w : List ℕ) (calls : List LineCall) (end : State) : Type 0 where
+pub record Lived (start : State) (w : List ℕ) (calls : List LineCall) (end : State) : Type 0 where
   pub commands : List Command
   pub answers : List ModelAnswer
-  pub life : Life f w calls commands answers
+  pub life : Life w calls commands answers
   pub claim : Claim start commands answers end
 
 -- from any sheet
-abbrev pub LivesRun : Format → Type 0
-LivesRun f = (w : List ℕ) (calls : List LineCall) (w' : List ℕ) → state_words ≤ length w → LineCalls f w calls w' → Lived f (model_of w) w calls (model_of w')
+abbrev pub LivesRun : Type 0
+LivesRun = (w : List ℕ) (calls : List LineCall) (w' : List ℕ) → state_words ≤ length w → LineCalls w calls w' → Lived (model_of w) w calls (model_of w')
 
 -- and from a fresh one
-pub record FreshLived (f : Format) (w : List ℕ) (calls : List LineCall) (w' : List ℕ) : Type 0 where
-  pub lived : Lived f fresh w calls (model_of w')
+pub record FreshLived (w : List ℕ) (calls : List LineCall) (w' : List ℕ) : Type 0 where
+  pub lived : Lived fresh w calls (model_of w')
   pub sound : Sound (model_of w')
   pub well : AllWell fresh lived.commands
 
-abbrev pub FreshLivesRun : Format → Type 0
-FreshLivesRun f = (behind : List ℕ) (calls : List LineCall) (w' : List ℕ) → LineCalls f (fresh_words behind) calls w' → FreshLived f (fresh_words behind) calls w'
+abbrev pub FreshLivesRun : Type 0
+FreshLivesRun = (behind : List ℕ) (calls : List LineCall) (w' : List ℕ) → LineCalls (fresh_words behind) calls w' → FreshLived (fresh_words behind) calls w'

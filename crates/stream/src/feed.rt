@@ -1,6 +1,5 @@
 // The bytes of an input, however they come: each line that ends is answered.
 ghost use Rattle.std.specs.Prelude.{◌≡◌, [], ◌≤◌, min};
-ghost use Rattle.stream.specs.Format.{in_bits};
 ghost use Rattle.stream.specs.Stream.{kept_bytes, text_of, Feeds, EndsInput};
 
 use crate::answers::put_line;
@@ -43,7 +42,7 @@ impl Stream {
 
     // Consumes bytes in turn while an answer line has room, and runs the commands of the lines that end on the sheet that lies in the words.
     pub fn feed(self, state: &mut [u32], bytes: &[u8], out: &mut [u8]) -> Progress
-        ensures { Feeds in_bits state.old self bytes.now out.old result state.new out.new }
+        ensures { Feeds state.old self bytes.now out.old result state.new out.new }
     {
         let mut line = self.line;
         let mut len = kept(self.len);
@@ -103,7 +102,7 @@ impl Stream {
 
     // The end of the input: the answer line of the bytes that are left, or no byte.
     pub fn ended(self, out: &mut [u8]) -> Ended
-        ensures { EndsInput in_bits self out.old result out.new }
+        ensures { EndsInput self out.old result out.new }
     {
         if self.len == 0 {
             return Ended {

@@ -1,6 +1,5 @@
 // What the next bytes of an input come to.
 ghost use Rattle.std.specs.Prelude.{◌≡◌, ◌+◌, ◌≤◌, ◌<◌, length};
-ghost use Rattle.stream.specs.Format.{in_bits};
 ghost use Rattle.stream.specs.Turns.{Hears};
 
 use lines::command_line::{LINE_LENGTH, fields};
@@ -19,7 +18,7 @@ pub(crate) enum Heard {
 // The next byte, after the bytes of a line that has not ended. The numbers of a line go to f.
 fn hear_byte(bytes: &[u8], i: usize, text: &[u8], f: &mut [u32]) -> Heard
     requires { (i < length bytes.now) × (length f.old ≡ 7) }
-    ensures { Hears in_bits bytes.now i text.now f.new result }
+    ensures { Hears bytes.now i text.now f.new result }
 {
     let b = bytes[i];
     if b != b'\n' {
@@ -35,7 +34,7 @@ fn hear_byte(bytes: &[u8], i: usize, text: &[u8], f: &mut [u32]) -> Heard
 // The next bytes. A whole command line that lies in the input is read where it lies.
 pub(crate) fn hear(bytes: &[u8], i: usize, text: &[u8], f: &mut [u32]) -> Heard
     requires { (i < length bytes.now) × (length f.old ≡ 7) }
-    ensures { Hears in_bits bytes.now i text.now f.new result }
+    ensures { Hears bytes.now i text.now f.new result }
 {
     if text.len() != 0 {
         return hear_byte(bytes, i, text, f);

@@ -1,4 +1,6 @@
 // Lines on a sheet: one line with its answer line, and the bytes of an input, however they come.
+#![tactic(auto)]
+
 mod answers;
 pub mod feed;
 mod hear;
@@ -7,10 +9,9 @@ pub mod respond;
 // How many bytes of a line are held: one more than a command line has.
 pub const KEPT: usize = 46;
 
-// The bytes of a line that has not ended: at most 46, so that a longer line is told from one of 45.
-// A caller sees none of its fields. The sheet lies in words that the caller lends.
+// The bytes of a line that has not ended: at most 46, so that a longer line is told from one of 45. The sheet lies in words that the caller lends.
 #[derive(Drop)]
 pub struct Stream {
-    line: [u8; KEPT],
-    len: usize,
+    pub line: [u8; KEPT],
+    pub len: usize,
 }

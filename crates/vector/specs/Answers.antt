@@ -2,14 +2,6 @@
 -- cases"): a refusal's number, 0 for none, and a value, the zero where it is refused ("Returned: the number, .. zeros").
 use Rattle.std.specs.Prelude.{ℕ}
 
--- the numbers that functions of vectors and masks are refused by: "7, .. no direction" and "10, a
--- component or `test` index above 2"
-abbrev pub direction_missing : ℕ
-direction_missing = 7
-
-abbrev pub index_above : ℕ
-index_above = 10
-
 pub record Answer (A : Type 0) : Type 0 where
   pub refusal : ℕ
   pub value : A

@@ -3,10 +3,10 @@ use Rattle.std.specs.Prelude.{ℕ, cond, eqb, Float}
 use Rattle.vector.specs.declared.vec3.Vec3.{Vec3}
 use Rattle.vector.specs.declared.vec3.index.Component.{Component}
 use Rattle.vector.specs.Vectors.{zer}
-use Rattle.vector.specs.Answers.{Answer, given, refused, index_above}
+use Rattle.vector.specs.Answers.{Answer, given, refused}
 
 abbrev pub out_of_range : {A : Type 0} → A → Answer A
-out_of_range zero = refused index_above zero
+out_of_range zero = refused 10 zero
 
 -- match index { 0 => self.x, 1 => self.y, 2 => self.z, _ => panic!("index out of bounds") }
 unfoldable pub indexed : {A : Type 0} → A → A → A → A → ℕ → Answer A

@@ -32,10 +32,3 @@ pub mod ExactLengths
 pub mod ScaledCorners
 pub mod Corners
 pub mod AssertLaws
-pub mod CornerBits
-pub mod ProductCorners
-pub mod ElementCorners
-pub mod LengthCorners
-pub mod RoundingCorners
-pub mod AngleCorners
-pub mod FunctionCorners

@@ -10,7 +10,7 @@ use Rattle.vector.specs.declared.vec3.normalizing.Normalized.{Normalized}
 use Rattle.vector.specs.declared.vec3.normalizing.Normalized.TheVariants.{Unit, Nothing}
 use Rattle.vector.specs.declared.vec3.normalizing.NormalizedAndLength.{NormalizedAndLength}
 use Rattle.vector.specs.Vectors.{vec, zer, one, ZERO, X}
-use Rattle.vector.specs.Answers.{Answer, given, refused, direction_missing}
+use Rattle.vector.specs.Answers.{Answer, given, refused}
 use Rattle.vector.specs.Operators as Operators
 use Rattle.vector.specs.Operators.{mul_number}
 use Rattle.vector.specs.Products.{length, length_squared, length_recip}
@@ -26,7 +26,7 @@ usable rcp = finite rcp && lt zer rcp
 -- the paper's number and values for each case of the answer: "7, .. no direction"
 abbrev pub answer_of : Normalized → Answer Vec3
 answer_of (Unit v) = given v
-answer_of Nothing = refused direction_missing ZERO
+answer_of Nothing = refused 7 ZERO
 
 -- let rcp = self.length_recip(); if .. { Some(self * rcp) } else { None }
 unfoldable pub try_normalize : Vec3 → Normalized

@@ -4,7 +4,7 @@ use Rattle.std.specs.Float.{nan, inf, fin}
 use Rattle.vector.specs.declared.vec3.Vec3.{Vec3}
 use Rattle.vector.specs.declared.vec3.normalizing.Normalized.TheVariants.{Unit, Nothing}
 use Rattle.vector.specs.Vectors.{ZERO}
-use Rattle.vector.specs.Answers.{Answer, given, refused, direction_missing}
+use Rattle.vector.specs.Answers.{Answer, given, refused}
 use Rattle.vector.specs.Operators.{mul_number}
 use Rattle.vector.specs.Products.{length_squared, length_recip}
 use Rattle.vector.specs.Normalizing.{try_normalize}
@@ -17,7 +17,7 @@ zero_infinite_or_nan (fin s m e) = eqb m 0
 
 -- the answer in the paper's number and values: "a unit vector or the word that there is none: none exactly if .."
 unfoldable pub unit_or_none : Vec3 → Answer Vec3
-unit_or_none a = cond (zero_infinite_or_nan (length_squared a)) (refused direction_missing ZERO) (given (mul_number a (length_recip a)))
+unit_or_none a = cond (zero_infinite_or_nan (length_squared a)) (refused 7 ZERO) (given (mul_number a (length_recip a)))
 
 -- of every vector a: there is no threshold
 pub record NoneExactly (a : Vec3) : Type 0 where

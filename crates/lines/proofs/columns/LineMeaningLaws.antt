@@ -6,7 +6,7 @@ use Rattle.lines.specs.declared.field.Reading.TheVariants.{Value, Ill}
 use Rattle.lines.specs.Field.{digits, is_digit, decimal, number, written}
 use Rattle.lines.specs.Columns.{field_at, both, numbers_at, text}
 use Rattle.lines.specs.CommandLine.{widths, numbers}
-use Rattle.lines.specs.LineMeaning.{NoLineFeed, WellFormedLength, WellFormedWhole, AllRoom, LineReadBack, LineWrittenBack, AnswerLength}
+use Rattle.lines.specs.LineMeaning.{NoLineFeed, WellFormedWhole, AllRoom, LineReadBack, LineWrittenBack, AnswerLength}
 use Rattle.lines.proofs.numerals.WriteLaws.{length_written}
 use Rattle.lines.proofs.numerals.FieldMeaningLaws.{digit_range, both_true, read_field}
 use Rattle.lines.proofs.numerals.RoundTripLaws.{read_back, written_back}
@@ -69,9 +69,6 @@ fields_free at (w ∷ ws) l ns e h =
     let g = given (field_at at w l) (numbers_at (at + w) ws l) ns e in
     let rest : NoLineFeed (drop (at + w) l) = fields_free (at + w) ws l g.rest g.others (omega arith) in
     rw (← take-append-drop w (drop at l), drop-drop w at l) (free_append (take w (drop at l)) (drop (at + w) l) (field_free _ g.first g.read) rest)
-
-pub well_formed_length : WellFormedLength
-well_formed_length l ns e = (whole l ns e).0
 
 pub well_formed_whole : WellFormedWhole
 well_formed_whole l ns e = let h = whole l ns e in fields_free 0 widths l ns h.1 (omega (arith, h.0))

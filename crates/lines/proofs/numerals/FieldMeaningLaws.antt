@@ -1,10 +1,10 @@
 -- A field gives a number exactly if it is blanks and that number's numeral. Assumes nothing.
-use Rattle.std.proofs.Common.{◌≡◌, ℕ, zero, suc, ◌+◌, ◌<◌, ◌≤◌, Bool, true, false, cond, not, ◌&&◌, eqb, ltb, leb, List, [], ◌∷◌, ◌++◌, length, get_or, replicate, sym, refl, arith, ltb-false, eq-eqb, ne_eqb, eqb-true, le-leb, leb-true}
+use Rattle.std.proofs.Common.{◌≡◌, ℕ, zero, suc, ◌+◌, ◌<◌, ◌≤◌, Bool, true, false, cond, ◌&&◌, eqb, ltb, leb, List, [], ◌∷◌, ◌++◌, length, get_or, replicate, sym, refl, arith, ltb-false, eq-eqb, ne_eqb, eqb-true, le-leb, leb-true}
 use borrow.Author.Tests.{eqb-false}
 use Rattle.lines.specs.declared.field.Reading.{Reading}
 use Rattle.lines.specs.declared.field.Reading.TheVariants.{Value, Ill}
-use Rattle.lines.specs.Field.{digits, is_digit, decimal, value_from, limit, value, leading_zero, number, ill_formed, answer_of}
-use Rattle.lines.specs.FieldMeaning.{Numeral, IsField, ReadsFields, number_or_one}
+use Rattle.lines.specs.Field.{digits, is_digit, decimal, value_from, limit, value, leading_zero, number}
+use Rattle.lines.specs.FieldMeaning.{Numeral, IsField, ReadsFields}
 
 -- ---- digits
 
@@ -122,21 +122,6 @@ read_field (b ∷ l) n e = go (eqb b 32) refl e (λ t. read_field l n t)
     go false p e ih =
         let h = read_numeral (b ∷ l) n e in
         record { blanks = 0; figures = b ∷ l; text = refl; numeral = h.0; fits = h.1 }
-
--- ---- in document 01's numbers
-pub number_answer : (ds : List ℕ) → answer_of (number ds) ≡ number_or_one ds
-unfolding number value answer_of number_or_one
-number_answer ds = by (eqb (length ds) 0) (leading_zero ds) (decimal ds) (leb (value_from 0 ds) limit)
-  where
-    by :
-        (empty zeros digits small : Bool)
-        → answer_of (cond empty Ill (cond zeros Ill (cond digits (cond small (Value (value_from 0 ds)) Ill) Ill)))
-        ≡ cond (not empty && (not zeros && (digits && small))) (record { refusal = 0; value = value_from 0 ds }) (record { refusal = ill_formed; value = 0 })
-    by true zeros digits small = refl
-    by false true digits small = refl
-    by false false false small = refl
-    by false false true false = refl
-    by false false true true = refl
 
 pub reads_fields : ReadsFields
 reads_fields l n = (read_field l n, field_read l n)

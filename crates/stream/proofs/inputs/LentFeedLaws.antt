@@ -14,7 +14,7 @@ use Rattle.sheet.specs.Words.{state_words, model_of, lent_step}
 use Rattle.commands.specs.Fields.{command_of}
 use Rattle.sheet.proofs.RunByLaws.{stepped_as}
 use Rattle.sheet.proofs.LentLaws.{length_step, step_lent}
-use Rattle.stream.specs.Format.{Format}
+use Rattle.lines.specs.CommandLine.{numbers}
 use Rattle.stream.specs.Responses.{response, line_response}
 use Rattle.stream.specs.Stream.{held, pushed, Fed, byte_fed, feed_of}
 use Rattle.stream.specs.Inputs.{LentAsModel}
@@ -27,7 +27,7 @@ abbrev fed_as : {S R : Type 0} → (S → R) → Fed S → Fed R
 fed_as m f = record { held = held (m f.held.state) f.held.text; text = f.text }
 
 module _
-    (format : Format) {S R : Type 0} (m : S → R) (P : S → Type 0) (f : S → Command → Stepped S) (g : R → Command → Stepped R) (keeps : (s : S) (c : Command) → P s → P (f s c).state)
+    {S R : Type 0} (m : S → R) (P : S → Type 0) (f : S → Command → Stepped S) (g : R → Command → Stepped R) (keeps : (s : S) (c : Command) → P s → P (f s c).state)
     (same : (s : S) (c : Command) → P s → stepped_as m (f s c) ≡ g (m s) c) where
   response_keeps : (s : S) (o : Option (List ℕ)) → P s → P (response f s o).state
   unfolding response
@@ -39,34 +39,34 @@ module _
   response_related s none p = refl
   response_related s (some ns) p = same s (command_of ns) p
 
-  byte_keeps : (s : S) (text : List ℕ) (b : ℕ) → P s → P (byte_fed format f (held s text) b).held.state
+  byte_keeps : (s : S) (text : List ℕ) (b : ℕ) → P s → P (byte_fed f (held s text) b).held.state
   unfolding byte_fed
   byte_keeps s text b p = go (eqb b 10)
     where
-      go : (x : Bool) → P (cond x (answered format (line_response format f s text)) (unanswered s (pushed text b))).held.state
-      go true = response_keeps s (format.read text) p
+      go : (x : Bool) → P (cond x (answered (line_response f s text)) (unanswered s (pushed text b))).held.state
+      go true = response_keeps s (numbers text) p
       go false = p
 
-  byte_related : (s : S) (text : List ℕ) (b : ℕ) → P s → fed_as m (byte_fed format f (held s text) b) ≡ byte_fed format g (held (m s) text) b
+  byte_related : (s : S) (text : List ℕ) (b : ℕ) → P s → fed_as m (byte_fed f (held s text) b) ≡ byte_fed g (held (m s) text) b
   unfolding byte_fed
   byte_related s text b p = go (eqb b 10)
     where
       go : (x : Bool)
-          → fed_as m (cond x (answered format (line_response format f s text)) (unanswered s (pushed text b))) ≡ cond x (answered format (line_response format g (m s) text)) (unanswered (m s) (pushed text b))
-      go true = ap (answered format) (response_related s (format.read text) p)
+          → fed_as m (cond x (answered (line_response f s text)) (unanswered s (pushed text b))) ≡ cond x (answered (line_response g (m s) text)) (unanswered (m s) (pushed text b))
+      go true = ap answered (response_related s (numbers text) p)
       go false = refl
 
-  pub feed_related : (s : S) (text bytes : List ℕ) → P s → fed_as m (feed_of format f (held s text) bytes) ≡ feed_of format g (held (m s) text) bytes
+  pub feed_related : (s : S) (text bytes : List ℕ) → P s → fed_as m (feed_of f (held s text) bytes) ≡ feed_of g (held (m s) text) bytes
   unfolding feed_of
   feed_related s text [] p = refl
   feed_related s text (b ∷ l) p =
-      let first = byte_fed format f (held s text) b in
+      let first = byte_fed f (held s text) b in
       ap (behind first.text) (feed_related first.held.state first.held.text l (byte_keeps s text b p))
-      ∙ ap (λ (y : Fed R). behind y.text (feed_of format g y.held l)) (byte_related s text b p)
+      ∙ ap (λ (y : Fed R). behind y.text (feed_of g y.held l)) (byte_related s text b p)
 
-pub lent_as_model : (format : Format) → LentAsModel format
-lent_as_model format w text bytes l =
-    let e = feed_related format model_of (λ (v : List ℕ). state_words ≤ length v) lent_step step_of (λ v c h. omega (arith, length_step v c h, h)) (λ v c h. step_lent v c h) w text bytes l in
+pub lent_as_model : LentAsModel
+lent_as_model w text bytes l =
+    let e = feed_related model_of (λ (v : List ℕ). state_words ≤ length v) lent_step step_of (λ v c h. omega (arith, length_step v c h, h)) (λ v c h. step_lent v c h) w text bytes l in
     record {
       same_state = ap (λ (x : Fed State). x.held.state) e;
       same_held = ap (λ (x : Fed State). x.held.text) e;

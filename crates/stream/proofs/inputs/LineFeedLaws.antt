@@ -8,8 +8,8 @@ use lib.Dec.{eqb}
 use Rattle.commands.specs.declared.command.Command.{Command}
 use Rattle.commands.specs.Answers.{ModelAnswer}
 use Rattle.commands.specs.Model.{Stepped, run_by}
-use Rattle.stream.specs.Format.{Format}
-use Rattle.stream.specs.Responses.{response, line_response}
+use Rattle.lines.specs.CommandLine.{numbers}
+use Rattle.stream.specs.Responses.{response, line_response, answer_text}
 use Rattle.stream.specs.Stream.{held, Fed, byte_fed, feed_of}
 use Rattle.stream.specs.Inputs.{Cut, in_front, cut, command_in, commands_in, line_answered, between, texts}
 use Rattle.stream.proofs.inputs.KeptLineLaws.{kept, pushed_kept, numbers_kept}
@@ -17,14 +17,14 @@ use Rattle.stream.proofs.inputs.KeptLineLaws.{kept, pushed_kept, numbers_kept}
 -- ---- some lines and the bytes after them
 
 -- the answers of lines, from the state s
-abbrev pub answers_from : Format → {S : Type 0} → (S → Command → Stepped S) → S → List (List ℕ) → List ModelAnswer
-answers_from format step s ls = between format ls (run_by step s (commands_in format ls)).answers
+abbrev pub answers_from : {S : Type 0} → (S → Command → Stepped S) → S → List (List ℕ) → List ModelAnswer
+answers_from step s ls = between ls (run_by step s (commands_in ls)).answers
 
 -- the lines are answered, the bytes after them are kept
-pub record LinesFed (format : Format) {S : Type 0} (step : S → Command → Stepped S) (s : S) (c : Cut) (f : Fed S) : Type 0 where
-  pub state : f.held.state ≡ (run_by step s (commands_in format c.lines)).state
+pub record LinesFed {S : Type 0} (step : S → Command → Stepped S) (s : S) (c : Cut) (f : Fed S) : Type 0 where
+  pub state : f.held.state ≡ (run_by step s (commands_in c.lines)).state
   pub rest : f.held.text ≡ kept c.rest
-  pub text : f.text ≡ texts format (answers_from format step s c.lines)
+  pub text : f.text ≡ texts (answers_from step s c.lines)
 
 -- ---- the bytes p of a line, in front of those that are cut
 
@@ -44,7 +44,7 @@ unfolding begun in_front
 begun_byte p b [] r = rw (append_assoc p (b ∷ []) r) refl
 begun_byte p b (l ∷ ls) r = rw (append_assoc p (b ∷ []) l) refl
 
-module _ (format : Format) {S : Type 0} (step : S → Command → Stepped S) where
+module _ {S : Type 0} (step : S → Command → Stepped S) where
   -- ---- one line
 
   response_state : (s : S) (o : Option (List ℕ)) (cs : List Command) → (run_by step s (command_in o cs)).state ≡ (run_by step (response step s o).state cs).state
@@ -59,38 +59,38 @@ module _ (format : Format) {S : Type 0} (step : S → Command → Stepped S) whe
   response_answer s none cs rest = refl
   response_answer s (some ns) cs rest = refl
 
-  no_line : (s : S) (p : List ℕ) → LinesFed format step s (record { lines = []; rest = p }) (record { held = held s (kept p); text = [] })
+  no_line : (s : S) (p : List ℕ) → LinesFed step s (record { lines = []; rest = p }) (record { held = held s (kept p); text = [] })
   unfolding commands_in between texts run_by
   no_line s p = record { state = refl; rest = refl; text = refl }
 
   -- a line in front
   line_first :
       (s : S) (line : List ℕ) (c : Cut) (f : Fed S)
-      → LinesFed format step (line_response format step s line).state c f
-      → LinesFed format step s (record { lines = line ∷ c.lines; rest = c.rest }) (record { held = f.held; text = (format.show (line_response format step s line).answer).text ++ f.text })
+      → LinesFed step (line_response step s line).state c f
+      → LinesFed step s (record { lines = line ∷ c.lines; rest = c.rest }) (record { held = f.held; text = answer_text (line_response step s line).answer ++ f.text })
   unfolding commands_in between texts
   line_first s line c f h =
       record {
-        state = h.state ∙ sym (response_state s (format.read line) (commands_in format c.lines));
+        state = h.state ∙ sym (response_state s (numbers line) (commands_in c.lines));
         rest = h.rest;
-        text = rw (response_answer s (format.read line) (commands_in format c.lines) (between format c.lines), h.text) refl;
+        text = rw (response_answer s (numbers line) (commands_in c.lines) (between c.lines), h.text) refl;
       }
 
   -- ---- all the bytes
   -- whatever the state, and whatever came since the last line feed, l answers the lines that it ends
   abbrev AllFed : List ℕ → Type 0
-  AllFed l = (s : S) (p : List ℕ) → LinesFed format step s (begun p (cut l).lines (cut l).rest) (feed_of format step (held s (kept p)) l)
+  AllFed l = (s : S) (p : List ℕ) → LinesFed step s (begun p (cut l).lines (cut l).rest) (feed_of step (held s (kept p)) l)
 
   -- a line feed answers the line that p was, any other byte is one more of p
   byte_first : (b : ℕ) (l : List ℕ) → AllFed l → AllFed (b ∷ l)
   unfolding cut feed_of byte_fed begun
   byte_first b l ih s p = go (eqb b 10) refl
     where
-      go : (x : Bool) → eqb b 10 ≡ x → LinesFed format step s (begun p (cut (b ∷ l)).lines (cut (b ∷ l)).rest) (feed_of format step (held s (kept p)) (b ∷ l))
+      go : (x : Bool) → eqb b 10 ≡ x → LinesFed step s (begun p (cut (b ∷ l)).lines (cut (b ∷ l)).rest) (feed_of step (held s (kept p)) (b ∷ l))
       go true e =
-          let after = (line_response format step s p).state in
-          rw (e, append-nil p, numbers_kept format p)
-          (line_first s p (cut l) (feed_of format step (held after []) l) (rw (begun_none (cut l).lines (cut l).rest) at (ih after [])))
+          let after = (line_response step s p).state in
+          rw (e, append-nil p, numbers_kept p)
+          (line_first s p (cut l) (feed_of step (held after []) l) (rw (begun_none (cut l).lines (cut l).rest) at (ih after [])))
       go false e = rw (e, begun_byte p b (cut l).lines (cut l).rest, pushed_kept p b) (ih s (p ++ (b ∷ [])))
 
   all_fed : (l : List ℕ) → AllFed l
@@ -99,5 +99,5 @@ module _ (format : Format) {S : Type 0} (step : S → Command → Stepped S) whe
   all_fed (b ∷ l) s p = byte_first b l (all_fed l) s p
 
   -- a whole input, from any state
-  pub input_fed : (s : S) (l : List ℕ) → LinesFed format step s (cut l) (feed_of format step (held s []) l)
+  pub input_fed : (s : S) (l : List ℕ) → LinesFed step s (cut l) (feed_of step (held s []) l)
   input_fed s l = rw (begun_none (cut l).lines (cut l).rest) at (all_fed l s [])

@@ -8,14 +8,13 @@ use lib.ListN.{length, length-append}
 use Rattle.commands.specs.declared.command.Command.{Command}
 use Rattle.commands.specs.Model.{Stepped}
 use Rattle.lines.specs.LineMeaning.{NoLineFeed}
-use Rattle.stream.specs.Format.{Format}
-use Rattle.stream.specs.Responses.{line_response}
+use Rattle.stream.specs.Responses.{line_response, answer_text}
 use Rattle.stream.specs.Stream.{Held, held, pushed, Fed, byte_fed, feed_of}
 use Rattle.stream.proofs.inputs.PieceLaws.{feed_append_held, feed_append_text}
 
 -- an answered line: its state and its answer line, and no byte of the next
-abbrev pub answered : Format → {S : Type 0} → Stepped S → Fed S
-answered format o = record { held = held o.state []; text = (format.show o.answer).text }
+abbrev pub answered : {S : Type 0} → Stepped S → Fed S
+answered o = record { held = held o.state []; text = answer_text o.answer }
 
 -- bytes of a line that has not ended
 abbrev pub unanswered : {S : Type 0} → S → List ℕ → Fed S
@@ -24,9 +23,9 @@ unanswered s text = record { held = held s text; text = [] }
 both : {S : Type 0} (x y : Fed S) → x.held ≡ y.held → x.text ≡ y.text → x ≡ y
 both {S} x y p q = ap (λ (a : Held S). record { held = a; text = x.text }) p ∙ ap (λ (t : List ℕ). record { held = y.held; text = t }) q
 
-module _ (format : Format) {S : Type 0} (step : S → Command → Stepped S) (s : S) where
+module _ {S : Type 0} (step : S → Command → Stepped S) (s : S) where
   -- bytes with no line feed among them are held, as far as 46 go
-  free_fed : (p l : List ℕ) → NoLineFeed l → length p + length l ≤ 46 → feed_of format step (held s p) l ≡ unanswered s (p ++ l)
+  free_fed : (p l : List ℕ) → NoLineFeed l → length p + length l ≤ 46 → feed_of step (held s p) l ≡ unanswered s (p ++ l)
   unfolding feed_of byte_fed pushed NoLineFeed
   free_fed p [] f h = rw (append-nil p)
   free_fed p (b ∷ l) f h =
@@ -35,14 +34,14 @@ module _ (format : Format) {S : Type 0} (step : S → Command → Stepped S) (s 
       rw (ne_eqb _ _ f.0, lt-ltb _ _ lt, free_fed (p ++ (b ∷ [])) l f.1 le, append_assoc p (b ∷ []) l)
 
   -- a line feed answers the line
-  end_fed : (line : List ℕ) → feed_of format step (held s line) (10 ∷ []) ≡ answered format (line_response format step s line)
+  end_fed : (line : List ℕ) → feed_of step (held s line) (10 ∷ []) ≡ answered (line_response step s line)
   unfolding feed_of byte_fed
-  end_fed line = rw (append-nil (format.show (line_response format step s line).answer).text)
+  end_fed line = rw (append-nil (answer_text (line_response step s line).answer))
 
   -- the rest of a line, and its line feed
   pub line_fed : (text rest : List ℕ) → NoLineFeed rest → length text + length rest ≤ 46
-      → feed_of format step (held s text) (rest ++ (10 ∷ [])) ≡ answered format (line_response format step s (text ++ rest))
+      → feed_of step (held s text) (rest ++ (10 ∷ [])) ≡ answered (line_response step s (text ++ rest))
   line_fed text rest f h =
-      both (feed_of format step (held s text) (rest ++ (10 ∷ []))) (answered format (line_response format step s (text ++ rest)))
-      (rw (feed_append_held format step (held s text) rest (10 ∷ []), free_fed text rest f h, end_fed (text ++ rest)))
-      (rw (feed_append_text format step (held s text) rest (10 ∷ []), free_fed text rest f h, end_fed (text ++ rest)))
+      both (feed_of step (held s text) (rest ++ (10 ∷ []))) (answered (line_response step s (text ++ rest)))
+      (rw (feed_append_held step (held s text) rest (10 ∷ []), free_fed text rest f h, end_fed (text ++ rest)))
+      (rw (feed_append_text step (held s text) rest (10 ∷ []), free_fed text rest f h, end_fed (text ++ rest)))

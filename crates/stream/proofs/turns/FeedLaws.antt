@@ -11,13 +11,13 @@ use lib.ListN.{length, get_or, take, drop, set, length-append, length-drop, leng
 use lib.Seq.{take_all, take-suc-set, length-take-le, take_at, take-add, drop-append-add, drop-drop, drop-cons}
 use Rattle.commands.specs.declared.command.Command.{Command}
 use Rattle.commands.specs.Model.{Stepped}
-use Rattle.stream.specs.Format.{Format}
-use Rattle.stream.specs.Responses.{line_response}
+use Rattle.stream.specs.Responses.{line_response, answer_text}
 use Rattle.stream.specs.Stream.{Held, held, pushed, byte_fed, feed_of, consumed_of, fed_into}
 use Rattle.stream.specs.Turns.{answered_at, Ends, IsByte}
 use Rattle.stream.proofs.inputs.PieceLaws.{feed_append_held, feed_append_text}
 use Rattle.stream.proofs.turns.ConsumedLaws.{consumed_byte, consumed_line}
 use Rattle.stream.proofs.turns.EndLaws.{answered, line_fed}
+use Rattle.stream.proofs.turns.AnswerLaws.{length_text}
 
 -- ---- the bytes of a line that are held
 pub take_min : (l : List ℕ) (n k : ℕ) → length l ≡ k → take (min n k) l ≡ take n l
@@ -44,18 +44,18 @@ push_full l at b e h =
     rw (n)
 
 -- ---- what holds at the loop's test: i bytes are fed, their answers are produced, and as many bytes more are consumed as the room that is left allows
-pub record Feeding (format : Format) {S : Type 0} (step : S → Command → Stepped S) (h : Held S) (bytes before out : List ℕ) (h' : Held S) (produced i : ℕ) : Type 0 where
+pub record Feeding {S : Type 0} (step : S → Command → Stepped S) (h : Held S) (bytes before out : List ℕ) (h' : Held S) (produced i : ℕ) : Type 0 where
   pub part : i ≤ length bytes
   pub fits : produced ≤ length before
   pub consumed : consumed_of (length before) bytes ≡ i + consumed_of (length before - produced) (drop i bytes)
-  pub now_held : h' ≡ (feed_of format step h (take i bytes)).held
-  pub count : produced ≡ length (feed_of format step h (take i bytes)).text
-  pub text : out ≡ (feed_of format step h (take i bytes)).text ++ drop produced before
+  pub now_held : h' ≡ (feed_of step h (take i bytes)).held
+  pub count : produced ≡ length (feed_of step h (take i bytes)).text
+  pub text : out ≡ (feed_of step h (take i bytes)).text ++ drop produced before
 
-pub length_feeding : {format : Format} {S : Type 0} {step : S → Command → Stepped S} {h h' : Held S} {bytes before out : List ℕ} {produced i : ℕ}
-    → Feeding format step h bytes before out h' produced i → length out ≡ length before
-length_feeding {format} {S} {step} {h} {h'} {bytes} {before} {out} {produced} {i} f =
-    omega (arith, ap length f.text, length-append (feed_of format step h (take i bytes)).text (drop produced before), length-drop produced before, f.fits, f.count)
+pub length_feeding : {S : Type 0} {step : S → Command → Stepped S} {h h' : Held S} {bytes before out : List ℕ} {produced i : ℕ}
+    → Feeding step h bytes before out h' produced i → length out ≡ length before
+length_feeding {S} {step} {h} {h'} {bytes} {before} {out} {produced} {i} f =
+    omega (arith, ap length f.text, length-append (feed_of step h (take i bytes)).text (drop produced before), length-drop produced before, f.fits, f.count)
 
 text_more : (p q before out out'' : List ℕ) (produced produced'' : ℕ) → length p ≡ produced → out ≡ p ++ drop produced before → produced'' ≡ produced + length q
     → out'' ≡ take produced out ++ (q ++ drop produced'' out) → out'' ≡ (p ++ q) ++ drop produced'' before
@@ -66,16 +66,16 @@ text_more p q before out out'' produced produced'' l e c o =
 take_one : (l : List ℕ) (i : ℕ) → i < length l → take 1 (drop i l) ≡ get_or l i 0 ∷ []
 take_one l i h = rw (drop-cons l i 0 h)
 
-module _ (format : Format) {S : Type 0} (step : S → Command → Stepped S) (h : Held S) (bytes before : List ℕ) where
-  pub feeding_none : Feeding format step h bytes before before h 0 0
+module _ {S : Type 0} (step : S → Command → Stepped S) (h : Held S) (bytes before : List ℕ) where
+  pub feeding_none : Feeding step h bytes before before h 0 0
   unfolding feed_of
   feeding_none =
       let z : length before - 0 ≡ length before = omega arith in
       record { part = omega arith; fits = omega arith; consumed = rw z (omega arith); now_held = refl; count = refl; text = refl }
 
-  module _ (out : List ℕ) (h' : Held S) (produced i : ℕ) (f : Feeding format step h bytes before out h' produced i) where
+  module _ (out : List ℕ) (h' : Held S) (produced i : ℕ) (f : Feeding step h bytes before out h' produced i) where
     -- no byte more is consumed
-    pub feeding_all : consumed_of (length before - produced) (drop i bytes) ≡ 0 → record { held = h'; consumed = i; produced = produced; out = out } ≡ fed_into format step h bytes before
+    pub feeding_all : consumed_of (length before - produced) (drop i bytes) ≡ 0 → record { held = h'; consumed = i; produced = produced; out = out } ≡ fed_into step h bytes before
     unfolding fed_into
     feeding_all z =
         let t : consumed_of (length before) bytes ≡ i = f.consumed ∙ omega (arith, z) in
@@ -87,15 +87,15 @@ module _ (format : Format) {S : Type 0} (step : S → Command → Stepped S) (h 
         → i + k ≤ length bytes
         → produced + length q ≤ length before
         → consumed_of (length before - produced) (drop i bytes) ≡ k + consumed_of (length before - (produced + length q)) (drop (i + k) bytes)
-        → feed_of format step h' (take k (drop i bytes)) ≡ record { held = h''; text = q }
+        → feed_of step h' (take k (drop i bytes)) ≡ record { held = h''; text = q }
         → out'' ≡ take produced out ++ (q ++ drop (produced + length q) out)
-        → Feeding format step h bytes before out'' h'' (produced + length q) (i + k)
+        → Feeding step h bytes before out'' h'' (produced + length q) (i + k)
     feeding_more k out'' h'' q le lt t e o =
-        let first = feed_of format step h (take i bytes) in
+        let first = feed_of step h (take i bytes) in
         let a : take (i + k) bytes ≡ take i bytes ++ take k (drop i bytes) = take-add i k bytes in
-        let hd : (feed_of format step h (take (i + k) bytes)).held ≡ h'' = rw (a, feed_append_held format step h (take i bytes) (take k (drop i bytes)), ← f.now_held, e) in
-        let tx : (feed_of format step h (take (i + k) bytes)).text ≡ first.text ++ q =
-        rw (a, feed_append_text format step h (take i bytes) (take k (drop i bytes)), ← f.now_held, e) in
+        let hd : (feed_of step h (take (i + k) bytes)).held ≡ h'' = rw (a, feed_append_held step h (take i bytes) (take k (drop i bytes)), ← f.now_held, e) in
+        let tx : (feed_of step h (take (i + k) bytes)).text ≡ first.text ++ q =
+        rw (a, feed_append_text step h (take i bytes) (take k (drop i bytes)), ← f.now_held, e) in
         record {
           part = le;
           fits = lt;
@@ -108,32 +108,32 @@ module _ (format : Format) {S : Type 0} (step : S → Command → Stepped S) (h 
   -- the end of a line, and its answer line
   pub feeding_line :
       (out : List ℕ) (s : S) (text : List ℕ) (produced i consumed : ℕ) (rest : List ℕ) (o : Stepped S) (out'' : List ℕ)
-      → Feeding format step h bytes before out (held s text) produced i
+      → Feeding step h bytes before out (held s text) produced i
       → Ends bytes i consumed rest
       → length text + length rest ≤ 46
       → produced + 43 ≤ length before
-      → line_response format step s (text ++ rest) ≡ o
-      → out'' ≡ answered_at format produced o.answer out
-      → Feeding format step h bytes before out'' (held o.state []) (produced + 43) (i + consumed)
+      → line_response step s (text ++ rest) ≡ o
+      → out'' ≡ answered_at produced o.answer out
+      → Feeding step h bytes before out'' (held o.state []) (produced + 43) (i + consumed)
   feeding_line out s text produced i consumed rest o out'' f r short lt e w =
-      let n : length (format.show o.answer).text ≡ 43 = format.text_length o.answer in
-      let p : produced + 43 ≡ produced + length (format.show o.answer).text = omega arith in
-      let room : length before - produced - 43 ≡ length before - (produced + length (format.show o.answer).text) = omega arith in
+      let n : length (answer_text o.answer) ≡ 43 = length_text o.answer in
+      let p : produced + 43 ≡ produced + length (answer_text o.answer) = omega arith in
+      let room : length before - produced - 43 ≡ length before - (produced + length (answer_text o.answer)) = omega arith in
       rw p
-      (feeding_more out (held s text) produced i f consumed out'' (held o.state []) (format.show o.answer).text r.part (omega arith)
+      (feeding_more out (held s text) produced i f consumed out'' (held o.state []) (answer_text o.answer) r.part (omega arith)
       (rw (← room) (consumed_line (length before - produced) (omega arith) bytes i consumed rest r))
-      (rw r.next (line_fed format step s text rest r.no_line_feed short ∙ ap (answered format) e))
+      (rw r.next (line_fed step s text rest r.no_line_feed short ∙ ap answered e))
       (rw (← p) w))
 
   -- a byte of a line that has not ended
   pub feeding_byte :
       (out : List ℕ) (s : S) (text text'' : List ℕ) (produced i b : ℕ)
-      → Feeding format step h bytes before out (held s text) produced i
+      → Feeding step h bytes before out (held s text) produced i
       → i < length bytes
       → IsByte bytes i b
       → produced + 43 ≤ length before
       → text'' ≡ pushed text b
-      → Feeding format step h bytes before out (held s text'') produced (i + 1)
+      → Feeding step h bytes before out (held s text'') produced (i + 1)
   unfolding feed_of byte_fed
   feeding_byte out s text text'' produced i b f lb r lt e =
       let z : produced + length {A = ℕ} [] ≡ produced = omega arith in

@@ -10,7 +10,7 @@ use lib.ListN.{length, get_or, take, drop, length-drop, drop_of_length-le}
 use lib.Seq.{take-suc, get_or-drop, drop-cons}
 use Rattle.lines.specs.CommandLine.{numbers, read_into, is_read, places_after}
 use Rattle.lines.specs.LineMeaning.{NoLineFeed}
-use Rattle.stream.specs.Format.{Format}
+use Rattle.lines.proofs.columns.LineMeaningLaws.{well_formed_whole}
 use Rattle.stream.specs.Turns.{Ends, IsRun}
 
 -- ---- the numbers of a line, in seven lent places
@@ -39,18 +39,18 @@ module _ (l f : List ℕ) (seven : length f ≡ 7) where
       go (some ns) r = cc
 
 -- ---- the end of a line
-pub end_next : (bytes : List ℕ) (i : ℕ) → i < length bytes → get_or bytes i 0 ≡ 10 → Ends bytes i 1 []
-unfolding NoLineFeed
-end_next bytes i h e = record { part = omega arith; no_line_feed = tt; next = rw (drop-cons bytes i 0 h, e) }
+module _ (bytes : List ℕ) (i : ℕ) where
+  pub end_next : i < length bytes → get_or bytes i 0 ≡ 10 → Ends bytes i 1 []
+  unfolding NoLineFeed
+  end_next h e = record { part = omega arith; no_line_feed = tt; next = rw (drop-cons bytes i 0 h, e) }
 
-module _ (format : Format) (bytes : List ℕ) (i : ℕ) where
-  pub hear_end : (text ns : List ℕ) → i < length bytes → get_or bytes i 0 ≡ 10 → format.read text ≡ some ns → IsRun format bytes i text ns 1
-  hear_end text ns h e p = record { rest = []; ends = end_next bytes i h e; line = rw (append-nil text) p }
+  pub hear_end : (text ns : List ℕ) → i < length bytes → get_or bytes i 0 ≡ 10 → numbers text ≡ some ns → IsRun bytes i text ns 1
+  hear_end text ns h e p = record { rest = []; ends = end_next h e; line = rw (append-nil text) p }
 
-  pub hear_line : (text ns : List ℕ) → length text ≡ 0 → i + 46 ≤ length bytes → get_or bytes (i + 45) 0 ≡ 10 → format.read (take 45 (drop i bytes)) ≡ some ns
-      → IsRun format bytes i text ns 46
+  pub hear_line : (text ns : List ℕ) → length text ≡ 0 → i + 46 ≤ length bytes → get_or bytes (i + 45) 0 ≡ 10 → numbers (take 45 (drop i bytes)) ≡ some ns
+      → IsRun bytes i text ns 46
   hear_line [] ns z h e p =
       let lt : 45 < length (drop i bytes) = omega (arith, length-drop i bytes) in
       let next : take 46 (drop i bytes) ≡ take 45 (drop i bytes) ++ (10 ∷ []) = take-suc (drop i bytes) 45 0 lt ∙ rw (get_or-drop i bytes 45 0, e) in
-      record { rest = take 45 (drop i bytes); ends = record { part = h; no_line_feed = format.no_line_feed (take 45 (drop i bytes)) ns p; next = next }; line = p }
+      record { rest = take 45 (drop i bytes); ends = record { part = h; no_line_feed = well_formed_whole (take 45 (drop i bytes)) ns p; next = next }; line = p }
   hear_line (b ∷ l) ns z h e p = absurd (omega arith)

@@ -10,7 +10,7 @@ use Rattle.vector.specs.declared.vec3.Vec3.{Vec3}
 use Rattle.vector.specs.declared.vec3.normalizing.Normalized.{Normalized}
 use Rattle.vector.specs.declared.vec3.normalizing.Normalized.TheVariants.{Unit, Nothing}
 use Rattle.vector.specs.Vectors.{ZERO}
-use Rattle.vector.specs.Answers.{given, refused, direction_missing}
+use Rattle.vector.specs.Answers.{given, refused}
 use Rattle.vector.specs.Operators.{mul_number}
 use Rattle.vector.specs.Products.{length, length_squared, length_recip}
 use Rattle.vector.specs.Normalizing.{usable, answer_of, try_normalize, normalize_or}
@@ -40,7 +40,7 @@ module _ (a : Vec3) where
   unfolding unit_or_none
   shown e = (e, ap answer_of (e ∙ answer_is) ∙ go (zero_infinite_or_nan (length_squared a)))
     where
-      go : (none : Bool) → answer_of (unless none) ≡ cond none (refused direction_missing ZERO) (given (mul_number a (length_recip a)))
+      go : (none : Bool) → answer_of (unless none) ≡ cond none (refused 7 ZERO) (given (mul_number a (length_recip a)))
       go true = refl
       go false = refl
 

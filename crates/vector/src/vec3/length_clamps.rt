@@ -18,7 +18,7 @@ impl Vec3 {
         ensures { result ≡ LengthClamps.clamp_length self min max }
     {
         let length_sq = self.length_squared();
-        if length_sq < min * min { // too short
+        if length_sq < min * min {
             at_length(self, length_sq, min)
         } else if length_sq > max * max {
             at_length(self, length_sq, max)

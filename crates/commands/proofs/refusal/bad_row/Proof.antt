@@ -34,10 +34,10 @@ plane_asked Planes kind h = refl
 plane_asked Filled kind h = absurd (false≢true h)
 
 returns : tie.Need-returns
-returns c = let args = c.before.before.args in simp (plane_asked (entry_at args.n).uses.row args.kind (planes_only args.n), ← c.before.uses_row.ensures, c.if1.true)
+returns c = let args = c.before.before.args in simp (plane_asked (entry_at args.n).uses.row args.kind (planes_only args.n), ← c.before.uses-row.ensures, c.if1.true)
 
 returns-2 : tie.Need-returns-2
-returns-2 c = let args = c.before.before.args in simp (plane_asked (entry_at args.n).uses.row args.kind (planes_only args.n), ← c.before.uses_row.ensures, c.if1.false)
+returns-2 c = let args = c.before.before.args in simp (plane_asked (entry_at args.n).uses.row args.kind (planes_only args.n), ← c.before.uses-row.ensures, c.if1.false)
 
 pub bad_row_spec : {M : Type 1} → statement M
 bad_row_spec = tie.close (tie.spec (λ c κs. search rules) returns returns-2)

@@ -7,7 +7,7 @@ use Rattle.lines.proofs.command_line.field_of_11.Tie as tie
 
 returns : tie.Need-returns
 returns c =
-    c.number.ensures.0
+    c.number.ensures
     ∙ (ap number c.before.digits.ensures ∙ read_part c.before.before.before.before.args.at 11 c.before.before.before.before.args.line.now)
 
 pub field_of_11_spec : {M : Type 1} → statement M

@@ -7,7 +7,6 @@ use native.Mathlib.Omega.{arith}
 use mathlib.Core.Path.{◌≡◌, refl, sym}
 use lib.ListN.{length, take}
 use lib.Seq.{length-take-le}
-use Rattle.stream.specs.Format.{in_bits}
 use Rattle.stream.specs.Stream.{held}
 use Rattle.stream.specs.Turns.{IsRun}
 use Rattle.stream.proofs.turns.ConsumedLaws.{ends_count}
@@ -17,7 +16,7 @@ use Rattle.stream.proofs.Stream.feed.Statement.{statement}
 use Rattle.stream.proofs.Stream.feed.Tie as tie
 
 abbrev invariant_loop : tie.invariant_loop
-invariant_loop state₀ bytes out₀ line₀ len₀ produced₀ i₀ state out line len produced i = Turning in_bits (held state₀ (take len₀ line₀)) bytes out₀ out (length state₀) state line len produced i
+invariant_loop state₀ bytes out₀ line₀ len₀ produced₀ i₀ state out line len produced i = Turning (held state₀ (take len₀ line₀)) bytes out₀ out (length state₀) state line len produced i
 
 abbrev decreases_loop : tie.decreases_loop
 decreases_loop state₀ bytes out₀ line₀ len₀ produced₀ i₀ state out line len produced i = length bytes - i
@@ -26,7 +25,7 @@ loop-holds : tie.Need-loop-init invariant_loop decreases_loop
 loop-holds c =
     let self = c.before.before.before.before.before.args.self in
     let l : length self.line ≡ 46 = search rules in
-    turning_none in_bits _ _ _ self.line _ c.kept.ensures.0 l
+    turning_none _ _ _ self.line _ c.kept.ensures.0 l
 
 sub_if1 : tie.Need-overflow-sub-if1 invariant_loop decreases_loop
 sub_if1 c = let inv = c.before.loop.invariant in omega (arith, inv.fed.fits, length_feeding inv.fed)
@@ -50,7 +49,7 @@ slice_aggregate_hear c =
     sym (length-take-le loop.len loop.line (omega (arith, loop.invariant.short, loop.invariant.long)))
 
 -- what `hear` promised of a line that gives a command
-heard : (c : tie.After-consumed invariant_loop decreases_loop) → let loop = c.before.before.before.before.before.before.before.before.loop in IsRun in_bits c.before.before.before.before.before.before.before.before.before.before.before.before.before.before.args.bytes.now loop.i (take loop.len loop.line) c.before.before.before.hear.new.1.1.1.0 c.consumed.given.0.0
+heard : (c : tie.After-consumed invariant_loop decreases_loop) → let loop = c.before.before.before.before.before.before.before.before.loop in IsRun c.before.before.before.before.before.before.before.before.before.before.before.before.before.before.args.bytes.now loop.i (take loop.len loop.line) c.before.before.before.hear.new.1.1.1.0 c.consumed.given.0.0
 heard c = rw c.consumed.given.1 at c.before.before.before.hear.ensures
 
 add_i : tie.Need-overflow-add-i invariant_loop decreases_loop
@@ -70,7 +69,7 @@ loop-again : tie.Need-loop-preserved invariant_loop decreases_loop
 loop-again c =
     let at-consumed = c.before.before.before.before.before.before.before.before.before.before.before.before.before in
     let at-if = at-consumed.before.before.before.before.before.before in
-    turn_run at-if.before.before.loop.invariant at-if.if1.false (heard at-consumed) _ _ _ (search rules) (step_answered _ _ _ _ _ _ refl (search rules) c.before.before.before.before.before.before.before.before.step_at.ensures) c.before.before.put_line.ensures
+    turn_run at-if.before.before.loop.invariant at-if.if1.false (heard at-consumed) _ _ _ (search rules) (step_answered _ _ _ _ _ _ refl c.before.before.before.before.before.before.before.before.step-at.ensures) c.before.before.put_line.ensures
 
 loop-again-2 : tie.Need-loop-preserved-2 invariant_loop decreases_loop
 loop-again-2 c =

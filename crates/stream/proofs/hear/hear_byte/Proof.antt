@@ -1,6 +1,5 @@
 -- `stream::hear::hear_byte` meets its contract. Assumes nothing.
 use mathlib.Core.Path.{sym, ◌∙◌}
-use Rattle.stream.specs.Format.{in_bits}
 use Rattle.stream.proofs.turns.HearLaws.{read_all, read_none, hear_end}
 use borrow.Author.Rules.{rules}
 use Rattle.stream.proofs.hear.hear_byte.Statement.{statement}
@@ -11,7 +10,7 @@ returns-2 c =
     let at-if = c.before.before.before.before.before in
     let start = at-if.before.before.before.before.before in
     let read = c.before.before.before.fields.ensures in
-    hear_end in_bits start.args.bytes.now start.args.i start.args.text.now _ start.requires.0 at-if.if1.false (read_all _ _ start.requires.1 _ (sym c.if2.true ∙ read.0) read.1)
+    hear_end start.args.bytes.now start.args.i start.args.text.now _ start.requires.0 at-if.if1.false (read_all _ _ start.requires.1 _ (sym c.if2.true ∙ read.0) read.1)
 
 returns-3 : tie.Need-returns-3
 returns-3 c =

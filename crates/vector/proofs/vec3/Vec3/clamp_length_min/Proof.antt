@@ -6,11 +6,11 @@ use Rattle.vector.proofs.vec3.Vec3.clamp_length_min.Tie as tie
 
 returns : tie.Need-returns
 unfolding clamp_length_min
-returns c = simp (← c.before.before.length_squared.ensures, c.before.if1.true, ← c.at_length.ensures)
+returns c = simp (← c.before.before.length-squared.ensures, c.before.if1.true, ← c.at_length.ensures)
 
 returns-2 : tie.Need-returns-2
 unfolding clamp_length_min
-returns-2 c = simp (← c.before.length_squared.ensures, c.if1.false)
+returns-2 c = simp (← c.before.length-squared.ensures, c.if1.false)
 
 pub clamp_length_min_spec : {M : Type 1} → statement M
 clamp_length_min_spec = tie.close (tie.spec (λ c κs. search rules) (λ c κs. search rules) returns returns-2)

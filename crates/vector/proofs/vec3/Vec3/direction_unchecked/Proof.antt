@@ -24,7 +24,7 @@ returns c =
     let b = s.before in
     let v = b.before.args.self in
     c.mul-f32.ensures
-    ∙ ap (mul_number s.scaled-by.result) c.before.length_recip.ensures
+    ∙ ap (mul_number s.scaled-by.result) c.before.length-recip.ensures
     ∙ ap unit_of (s.scaled-by.ensures ∙ ap (λ (n : ℕ). each (times_power (log2 (size_of_bits n))) v) b.largest-bits.ensures)
     ∙ unchecked_by_bits v (held b.before)
 

@@ -6,7 +6,7 @@ use Rattle.vector.proofs.vec3.Vec3.is_normalized.Tie as tie
 
 returns : tie.Need-returns
 unfolding is_normalized
-returns c = simp (c.before.length_squared.ensures, c.abs.ensures)
+returns c = simp (c.before.length-squared.ensures, c.abs.ensures)
 
 pub is_normalized_spec : {M : Type 1} → statement M
 is_normalized_spec = tie.close (tie.spec (λ c κs. search rules) (λ c κs. search rules) returns)

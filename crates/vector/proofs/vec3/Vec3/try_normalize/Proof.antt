@@ -10,7 +10,7 @@ unfolding try_normalize
 returns c =
     shown _
     (simp (
-      ← c.before.before.before.length_recip.ensures,
+      ← c.before.before.before.length-recip.ensures,
       ← c.before.before.usable.ensures,
       c.before.if1.true,
       ← c.mul-f32.ensures,
@@ -18,7 +18,7 @@ returns c =
 
 returns-2 : tie.Need-returns-2
 unfolding try_normalize
-returns-2 c = shown _ (simp (← c.before.before.length_recip.ensures, ← c.before.usable.ensures, c.if1.false))
+returns-2 c = shown _ (simp (← c.before.before.length-recip.ensures, ← c.before.usable.ensures, c.if1.false))
 
 pub try_normalize_spec : {M : Type 1} → statement M
 try_normalize_spec =
