@@ -12,8 +12,8 @@ pub const LINE_LENGTH: usize = 45;
 // Reads the numbers of a line into the first seven places of f, and answers whether it did: it does not where the line is ill formed,
 // nor where fewer than seven places are lent. An enum with the numbers in its case would have them copied once more.
 pub fn fields(line: &[u8], f: &mut [u32]) -> bool
-    ensures value { result ≡ CommandLine.is_read (CommandLine.read_into line.now f.old) }
-    ensures f_after { f.new ≡ CommandLine.places_after (CommandLine.read_into line.now f.old) f.old }
+    ensures read { result ≡ CommandLine.is_read (CommandLine.read_into line.now f.old) }
+    ensures places { f.new ≡ CommandLine.places_after (CommandLine.read_into line.now f.old) f.old }
 {
     if f.len() < 7 {
         return false;

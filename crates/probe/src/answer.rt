@@ -49,8 +49,8 @@ pub(crate) fn given(count: usize, results: [u32; 6]) -> Answer
 
 // Writes the answer's line from `at` on, and gives the place behind it.
 pub(crate) fn put_line(out: &mut [u8], at: usize, answer: Answer) -> usize
-    requires longest_in_bounds { at + longest ≤ length out.old }
-    requires count_bound { answer.count ≤ 6 }
+    requires room { at + longest ≤ length out.old }
+    requires few { answer.count ≤ 6 }
     ensures { result ≤ at + longest }
 {
     let count = answer.count;

@@ -52,8 +52,8 @@ pub fn round(x: f32) -> f32
 // The whole number nearest to a number below 2 ^ 23 in size, ties to even: the sum of its size and 2 ^ 23 has 1 as its unit in the last
 // place, and the difference is exact (WholeLaws.near_whole).
 fn near(x: f32) -> f32
-    requires t { T (not (Ieee.is_nan x)) }
-    requires binary32_value { Ieee.lt (Sign.abs x) (Ieee.of_bits binary32 0x4b000000) ≡ true }
+    requires number { T (not (Ieee.is_nan x)) }
+    requires below_whole { Ieee.lt (Sign.abs x) (Ieee.of_bits binary32 0x4b000000) ≡ true }
     ensures { result ≡ Integral.round_even x }
 {
     signed((size(x) + WHOLE) - WHOLE, x)
@@ -79,8 +79,8 @@ fn size(x: f32) -> f32
 
 // The number w with the sign of the number x.
 fn signed(w: f32, x: f32) -> f32
-    requires t { T (not (Ieee.is_nan w)) }
-    requires t_2 { T (not (Ieee.is_nan x)) }
+    requires number { T (not (Ieee.is_nan w)) }
+    requires sign_number { T (not (Ieee.is_nan x)) }
     ensures { result ≡ Sign.copysign w x }
 {
     f32::from_bits(copysign_bits(f32::to_bits(w), f32::to_bits(x)))

@@ -95,8 +95,8 @@ pub(crate) fn remember_two(state: &mut [u32], t: u32)
 // Puts back the rows of the entry at e, and gives its target.
 fn put_back(state: &mut [u32], e: usize) -> u32
     requires { (ring_at ≤ e) × (e + 12 ≤ length state.old) }
-    ensures state_after { state.new ≡ put_back state.old e }
-    ensures value { result ≡ target_in state.old e }
+    ensures words { state.new ≡ put_back state.old e }
+    ensures target { result ≡ target_in state.old e }
 {
     if state[e + 1] == 2 {
         let t = state[e] % 63;

@@ -37,8 +37,8 @@ impl Vec3 {
 
     // self at length 1.0 if possible.
     pub fn try_normalize(self) -> Normalized
-        ensures value { result ≡ Normalizing.try_normalize self }
-        ensures result_value { Normalizing.answer_of result ≡ Meaning.unit_or_none self }
+        ensures direction { result ≡ Normalizing.try_normalize self }
+        ensures numbered { Normalizing.answer_of result ≡ Meaning.unit_or_none self }
     {
         let rcp = self.length_recip();
         if usable(rcp) {

@@ -1,0 +1,15 @@
+-- `scalar::bits::to_bits` meets its contract. Assumes nothing.
+use mathlib.Core.Path.{sym, ap, subst}
+use lib.Dec.{T}
+use lib.Ieee.{binary32, to_bits}
+use lib.Ieee.Compare.{differs_from_itself}
+use Rattle.scalar.proofs.floats.BitsLaws.{equal_no_nan}
+use borrow.Author.Rules.{rules}
+use Rattle.scalar.proofs.bits.to_bits.Goals as goal
+
+pub returns-then-x : goal.returns-then-x
+unfolding to_bits
+returns-then-x c = sym (ap (to_bits binary32) (differs_from_itself c.args.x (subst T (sym c.if-x.true) tt)))
+
+pub float_to_bits-result : goal.float_to_bits-result
+float_to_bits-result c = equal_no_nan c.args.x c.if-x.false
