@@ -9,7 +9,7 @@ use libc::STDOUT_FILENO;
 use stream::Stream;
 
 // The stream after some bytes, how many of them it consumed, how many bytes of answers were handed to `write_all`, and whether it wrote them.
-#[derive(Drop)]
+#[derive(Clone, Copy)]
 pub(crate) struct Answered {
     pub stream: Stream,
     pub consumed: usize,
@@ -72,7 +72,7 @@ pub(crate) fn answer_all(
 }
 
 // How many bytes of the last answer line were handed to `write_all`, its refusal, and whether it was written.
-#[derive(Drop)]
+#[derive(Clone, Copy)]
 pub(crate) struct Last {
     pub handed: usize,
     pub refusal: u32,

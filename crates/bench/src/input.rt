@@ -9,7 +9,7 @@ use libc::STDIN_FILENO;
 use stream::Stream;
 
 // Whether there is more to read, or why not.
-#[derive(Drop)]
+#[derive(Clone, Copy)]
 pub(crate) enum Status {
     Going,
     Ended,
@@ -18,7 +18,7 @@ pub(crate) enum Status {
 }
 
 // The stream after a read, how many of the bytes that it brought were consumed, and whether to read on.
-#[derive(Drop)]
+#[derive(Clone, Copy)]
 struct Turn {
     stream: Stream,
     consumed: usize,
@@ -73,7 +73,7 @@ fn read_once(stream: Stream, state: &mut [u32], chunk: &mut [u8], out: &mut [u8]
 }
 
 // How many reads brought bytes, and why no more were made.
-#[derive(Drop)]
+#[derive(Clone, Copy)]
 pub(crate) struct Answers {
     pub reads: u64,
     pub status: Status,

@@ -25,7 +25,7 @@ use scalar::bits::from_bits;
 use vector::vec3::Vec3;
 
 // An answer to tell; what to write at the target, one row, or two directions at t and t + 1; or the rows before the latest command that is remembered.
-#[derive(Drop)]
+#[derive(Clone, Copy)]
 pub enum Effect {
     Tell(Answer),
     Put { kind: u32, v: Vec3, offset: f32 },

@@ -15,7 +15,7 @@ pub(crate) const UNKNOWN: u32 = 2;
 pub(crate) const INDEX: u32 = 10;
 
 // The refusal, and the first `count` of the results.
-#[derive(Drop)]
+#[derive(Clone, Copy)]
 pub(crate) struct Answer {
     pub refusal: u32,
     pub count: usize,

@@ -2,7 +2,7 @@
 ghost use Rattle.std.specs.Prelude.{◌≤◌};
 
 // What the bytes of a field come to: no digit yet, a number, or the word that the line is malformed.
-#[derive(Drop)]
+#[derive(Clone, Copy)]
 pub(crate) enum Field {
     Empty,
     Number(u32),
@@ -11,7 +11,7 @@ pub(crate) enum Field {
 
 // A line that has not ended: how many fields have ended, and the field after them. The caller lends an array for the values
 // of the first ten, a function's number and nine arguments; the count stops at eleven.
-#[derive(Drop)]
+#[derive(Clone, Copy)]
 pub(crate) struct Call {
     pub count: usize,
     pub field: Field,

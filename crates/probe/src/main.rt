@@ -25,7 +25,7 @@ use libc::{STDERR_FILENO, STDIN_FILENO, STDOUT_FILENO};
 const CHUNK: usize = 851;
 
 // The line that has not ended, how many bytes were consumed, and whether to read on.
-#[derive(Drop)]
+#[derive(Clone, Copy)]
 struct Turn {
     call: Call,
     consumed: usize,

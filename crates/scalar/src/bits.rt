@@ -26,7 +26,7 @@ pub fn to_bits(x: f32) -> u32
 }
 
 // A float taken apart: `Fin(s, q, k)` is q times 2 ^ k of the smallest values, negative where s is true.
-#[derive(Drop)]
+#[derive(Clone, Copy)]
 pub(crate) enum Parts {
     Nan,
     Inf(bool),

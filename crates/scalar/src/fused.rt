@@ -41,7 +41,7 @@ pub fn mul_add(a: f32, b: f32, c: f32) -> f32
 }
 
 // A factor: `Number(s, m, k)` is m times 2 ^ (k - 172), m of 24 bits; with any other factor the product is exact.
-#[derive(Drop)]
+#[derive(Clone, Copy)]
 enum Factor {
     Other,
     Number(bool, u32, u32),

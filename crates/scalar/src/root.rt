@@ -27,7 +27,7 @@ pub fn sqrt(x: f32) -> f32
 }
 
 // A root, and whether it is exact: whether its square is the argument, without rounding.
-#[derive(Drop)]
+#[derive(Clone, Copy)]
 pub struct MarkedRoot {
     pub root: f32,
     pub exact: bool,

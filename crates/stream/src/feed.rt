@@ -10,7 +10,7 @@ use lines::answer_line::ANSWER_LENGTH;
 use sheet::step::step_at;
 
 // The stream afterwards, how many bytes of the input were consumed, and how many of answers produced.
-#[derive(Drop)]
+#[derive(Clone, Copy)]
 pub struct Progress {
     pub stream: Stream,
     pub consumed: usize,
@@ -18,7 +18,7 @@ pub struct Progress {
 }
 
 // How many bytes were produced, and the refusal: 1 for the line that has not ended, 9 where its answer line has no room, 0 where no byte is left.
-#[derive(Drop)]
+#[derive(Clone, Copy)]
 pub struct Ended {
     pub produced: usize,
     pub refusal: u32,

@@ -8,7 +8,7 @@ use lines::command_line::{LINE_LENGTH, fields};
 const WITH_FEED: usize = 46;
 
 // The numbers of a line that ends in the next bytes, so many of them; a line that is ill formed; or a byte of a line.
-#[derive(Drop)]
+#[derive(Clone, Copy)]
 pub(crate) enum Heard {
     Run(usize),
     Ill,

@@ -10,7 +10,7 @@ pub mod respond;
 pub const KEPT: usize = 46;
 
 // The bytes of a line that has not ended: at most 46, so that a longer line is told from one of 45. The sheet lies in words that the caller lends.
-#[derive(Drop)]
+#[derive(Clone, Copy)]
 pub struct Stream {
     pub line: [u8; KEPT],
     pub len: usize,

@@ -2,7 +2,7 @@
 ghost use Rattle.std.specs.Prelude.{◌≡◌};
 ghost use Rattle.vector.specs.Masks as Masks;
 
-#[derive(Drop)]
+#[derive(Clone, Copy)]
 pub struct BVec3 {
     pub x: bool,
     pub y: bool,
@@ -10,7 +10,7 @@ pub struct BVec3 {
 }
 
 // What `test` answers: a bit, or refusal 10.
-#[derive(Drop)]
+#[derive(Clone, Copy)]
 pub enum Tested {
     Bit(bool),
     OutOfRange,
@@ -45,6 +45,7 @@ impl BVec3 {
     }
 
     // The element at an index 0 to 2.
+    #[tactic(auto, unfolding(crate::specs::Masks::test, crate::specs::Indexed::indexed))]
     pub fn test(self, index: u32) -> Tested
         ensures { Masks.answer_of result ≡ Masks.test self index }
     {

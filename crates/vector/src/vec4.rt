@@ -1,5 +1,5 @@
 // A plain four-number struct (src/f32/scalar/vec4.rs).
-#[derive(Drop)]
+#[derive(Clone, Copy)]
 pub struct Vec4 {
     pub x: f32,
     pub y: f32,

@@ -12,6 +12,7 @@ use lib.Ieee.Positive.{first_pos, through}
 
 or_l : (p q : Bool) → T p → T (p || q)
 or_l true q h = tt
+or_l false q h = elim h [ ]
 
 or_r : (p q : Bool) → T q → T (p || q)
 or_r true q h = tt

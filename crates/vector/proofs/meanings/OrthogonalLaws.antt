@@ -88,6 +88,8 @@ exact_zero = refl
 finite_neg : (x : Float) → T (finite x) → T (finite (neg x))
 unfolding neg
 finite_neg (fin s m e) t = t
+finite_neg nan t = elim t [ ]
+finite_neg (inf _) t = elim t [ ]
 
 finite_zero : T (finite zer)
 unfolding of_bits

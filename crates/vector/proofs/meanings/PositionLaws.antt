@@ -30,6 +30,7 @@ positions a = record { least = position_small _ a; greatest = position_small _ a
 -- ---- a first index is the only one
 clash : (b : Bool) → T b → T (not b) → ⊥
 clash true t f = f
+clash false t f = elim t [ ]
 
 module _ (before : Float → Float → Bool) (a : Vec3) where
   not_above : (i j : ℕ) → First before a i → First before a j → j ≤ i

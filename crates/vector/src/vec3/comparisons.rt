@@ -36,6 +36,7 @@ impl Vec3 {
     }
 
     // Whether all elements are finite.
+    #[tactic(auto, unfolding(crate::specs::Comparisons::is_finite))]
     pub fn is_finite(self) -> bool
         ensures { result ≡ Comparisons.is_finite self }
     {
@@ -50,6 +51,7 @@ impl Vec3 {
     }
 
     // Whether any element is a NaN.
+    #[tactic(auto, unfolding(crate::specs::Comparisons::is_nan))]
     pub fn is_nan(self) -> bool
         ensures { result ≡ Comparisons.is_nan self }
     {

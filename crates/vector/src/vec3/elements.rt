@@ -21,6 +21,7 @@ fn max(a: f32, b: f32) -> f32
 
 impl Vec3 {
     // A true element of the mask takes the element of if_true, a false one that of if_false.
+    #[tactic(auto, unfolding(crate::specs::Elements::select))]
     pub fn select(mask: BVec3, if_true: Vec3, if_false: Vec3) -> Vec3
         ensures { result ≡ Elements.select mask if_true if_false }
     {
@@ -75,6 +76,7 @@ impl Vec3 {
     }
 
     // The index of the first least element.
+    #[tactic(auto, unfolding(crate::specs::Elements::min_position, crate::specs::Elements::position))]
     pub fn min_position(self) -> u32
         ensures { result ≡ Elements.min_position self }
     {
@@ -91,6 +93,7 @@ impl Vec3 {
     }
 
     // The index of the first greatest element.
+    #[tactic(auto, unfolding(crate::specs::Elements::max_position, crate::specs::Elements::position))]
     pub fn max_position(self) -> u32
         ensures { result ≡ Elements.max_position self }
     {

@@ -5,7 +5,7 @@ ghost use Rattle.vector.specs.Indexed as Indexed;
 use crate::vec3::Vec3;
 
 // What `component` answers: a number, or refusal 10.
-#[derive(Drop)]
+#[derive(Clone, Copy)]
 pub enum Component {
     At(f32),
     OutOfRange,
@@ -13,6 +13,7 @@ pub enum Component {
 
 impl Vec3 {
     // The component at an index 0 to 2.
+    #[tactic(auto, unfolding(crate::specs::Indexed::component, crate::specs::Indexed::indexed))]
     pub fn component(self, index: u32) -> Component
         ensures { Indexed.answer_of result ≡ Indexed.component self index }
     {

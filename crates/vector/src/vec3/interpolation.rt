@@ -15,6 +15,7 @@ impl Vec3 {
     }
 
     // From self by d towards rhs; rhs itself where it is no further off than d or 1e-4.
+    #[tactic(auto, unfolding(crate::specs::Interpolation::move_towards))]
     pub fn move_towards(self, rhs: Vec3, d: f32) -> Vec3
         ensures { result ≡ Interpolation.move_towards self rhs d }
     {

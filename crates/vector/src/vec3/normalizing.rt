@@ -7,14 +7,14 @@ use crate::vec3::Vec3;
 use scalar::sign::{abs, is_finite};
 
 // A unit vector, or the word that there is none.
-#[derive(Drop)]
+#[derive(Clone, Copy)]
 pub enum Normalized {
     Unit(Vec3),
     Nothing,
 }
 
 // A unit vector and the length that the vector had.
-#[derive(Drop)]
+#[derive(Clone, Copy)]
 pub struct NormalizedAndLength {
     pub normalized: Vec3,
     pub length: f32,

@@ -6,7 +6,7 @@ use crate::vec3::Vec3;
 use scalar::sign::{abs, signum};
 
 // What any_orthonormal_pair answers, a tuple in the Rust.
-#[derive(Drop)]
+#[derive(Clone, Copy)]
 pub struct Pair {
     pub first: Vec3,
     pub second: Vec3,

@@ -1,0 +1,8 @@
+-- `vector::vec3::Vec3::project_onto_normalized` meets its contract. Assumes nothing.
+use Rattle.vector.specs.Projections.{project_onto_normalized}
+use borrow.Author.Rules.{rules}
+use Rattle.vector.proofs.vec3.Vec3.project_onto_normalized.Goals as goal
+
+pub returns : goal.returns
+unfolding project_onto_normalized
+returns c = simp (c.dot.ensures, c.mul_f32.ensures)
