@@ -129,6 +129,7 @@ fn no_row(c: Command) -> bool
 }
 
 // One of five sets, by a row's kind.
+#[tactic(auto, unfolding(crate::specs::CommandSets::set_of))]
 fn set_of(kind: u32, empty: u64, point: u64, direction: u64, plane: u64, other: u64) -> u64
     ensures { result ≡ set_of «kind» empty point direction plane other }
 {

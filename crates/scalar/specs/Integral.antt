@@ -21,8 +21,8 @@ abbrev pub toward_negative : Bool → ℕ → ℕ → ℕ
 toward_negative s a b = cond s (a / b + cond (eqb (a % b) 0) 0 1) (a / b)
 
 -- roundTiesToEven: to nearest even
-abbrev pub tiesToEven : Bool → ℕ → ℕ → ℕ
-tiesToEven s a b = closest a b
+abbrev pub ties_to_even : Bool → ℕ → ℕ → ℕ
+ties_to_even s a b = closest a b
 
 abbrev pub trunc : Float → Float
 trunc x = integral toward_zero x
@@ -31,4 +31,4 @@ abbrev pub floor : Float → Float
 floor x = integral toward_negative x
 
 abbrev pub round_even : Float → Float
-round_even x = integral tiesToEven x
+round_even x = integral ties_to_even x

@@ -18,14 +18,14 @@ use Rattle.laws.proofs.numbers.BoolLaws.{pos_of_not_zero}
 use Rattle.laws.proofs.rounding.ClosestLaws.{closest_best, closest_tie}
 use Rattle.laws.proofs.values.SizeLaws.{size_of_value, value_of_size}
 use Rattle.laws.proofs.values.ValueLaws.{value_finite, value_same}
-use Rattle.scalar.specs.Integral.{integral, toward_zero, toward_negative, tiesToEven, trunc, floor, round_even}
+use Rattle.scalar.specs.Integral.{integral, toward_zero, toward_negative, ties_to_even, trunc, floor, round_even}
 use Rattle.scalar.specs.IntegralMeaning.{Whole, Truncated, Floored, RoundedEven}
 use Rattle.scalar.specs.Parts.{Split}
 use Rattle.scalar.proofs.floats.BitsLaws.{PartsOf, parts_of}
 use Rattle.scalar.proofs.floats.PartsLaws.{value_of_parts}
 use Rattle.scalar.proofs.floats.FitsLaws.{integral_fits}
 use Rattle.scalar.proofs.whole_numbers.IntegralLaws.{Rule, integral_at, whole_stays}
-use Rattle.scalar.proofs.whole_numbers.IntegralRules.{toward_zero_rule, toward_negative_rule, ties-to-even-rule}
+use Rattle.scalar.proofs.whole_numbers.IntegralRules.{toward_zero_rule, toward_negative_rule, ties_to_even_rule}
 
 -- a rule goes at most one above the quotient
 abbrev Near : (Bool → ℕ → ℕ → ℕ) → Type 0
@@ -144,15 +144,15 @@ floor_means x fx tx =
     n = size_in binary32 x
 
 -- ---- ties to even
-ties-to-even-near : (s : Bool) (a b : ℕ) → tiesToEven s a b ≤ a / b + 1
-ties-to-even-near s a b = le_trans (nearest-le (a / b) (compare (a % b * 2) b)) (le_of_eq (sym (add-one (a / b))))
+ties_to_even_near : (s : Bool) (a b : ℕ) → ties_to_even s a b ≤ a / b + 1
+ties_to_even_near s a b = le_trans (nearest-le (a / b) (compare (a % b * 2) b)) (le_of_eq (sym (add-one (a / b))))
 
 pub round_means : (x : Float) → T (fits binary32 x) → T (finite x) → RoundedEven x (round_even x)
 round_means x fx tx =
     let n = size_in binary32 x in
     record {
       w = closest n (2 ^ 149);
-      whole = integral_whole tiesToEven ties-to-even-rule ties-to-even-near x fx tx;
+      whole = integral_whole ties_to_even ties_to_even_rule ties_to_even_near x fx tx;
       nearest = λ v. closest_best n (2 ^ 149) v (pow_pos 149);
       even = λ v d e. closest_tie n (2 ^ 149) v (pow_pos 149) d e;
     }

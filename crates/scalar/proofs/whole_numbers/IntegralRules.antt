@@ -8,7 +8,7 @@ use lib.Dec.{eqb, eqb-suc-zero}
 use lib.Ieee.Nearest.{div_same, closest_same}
 use Rattle.laws.proofs.numbers.BoolLaws.{not_zero}
 use Rattle.laws.proofs.rounding.ClosestLaws.{closest_is}
-use Rattle.scalar.specs.Integral.{toward_zero, toward_negative, tiesToEven}
+use Rattle.scalar.specs.Integral.{toward_zero, toward_negative, ties_to_even}
 use Rattle.scalar.proofs.whole_numbers.IntegralLaws.{Rule}
 
 -- ---- toward zero
@@ -48,8 +48,8 @@ pub toward_negative_rule : Rule toward_negative
 toward_negative_rule = record { respects = toward_negative_respects; keeps = toward_negative_keeps }
 
 -- ---- ties to even
-pub ties-to-even-rule : Rule tiesToEven
-ties-to-even-rule = record {
+pub ties_to_even_rule : Rule ties_to_even
+ties_to_even_rule = record {
   respects = λ s a b c d B D h. closest_same a b c d B D h;
   keeps = λ s w c C. closest_is (w * c) c w C (omega arith) (omega arith);
 }

@@ -19,13 +19,13 @@ use Rattle.laws.proofs.operations.OperationLaws.{neg_value}
 use Rattle.laws.proofs.values.SizeLaws.{value_of_size, size_of_value}
 use Rattle.laws.proofs.values.ValueLaws.{Value, value_finite}
 use Rattle.laws.proofs.values.ValueOrderLaws.{lt_is}
-use Rattle.scalar.specs.Integral.{integral, toward_negative, tiesToEven}
+use Rattle.scalar.specs.Integral.{integral, toward_negative, ties_to_even}
 use Rattle.scalar.specs.Sign.{abs, copysign, one}
 use Rattle.scalar.proofs.floats.BitsLaws.{PartsOf, parts_of, round_neg}
 use Rattle.scalar.proofs.floats.PartsLaws.{value_of_parts}
 use Rattle.scalar.proofs.floats.SignLaws.{abs_pos, abs_value, copy}
 use Rattle.scalar.proofs.whole_numbers.IntegralLaws.{Rule, integral_at, other_stays, whole_stays}
-use Rattle.scalar.proofs.whole_numbers.IntegralRules.{toward_negative_rule, ties-to-even-rule}
+use Rattle.scalar.proofs.whole_numbers.IntegralRules.{toward_negative_rule, ties_to_even_rule}
 use Rattle.laws.proofs.values.WholeLaws.{whole_value, whole_more, whole_less, near_whole}
 
 -- ---- the nearest whole number against the fraction
@@ -74,7 +74,7 @@ module _ (n d : ℕ) (D : 0 < d) where
       short r l = let s = div-add-mod' n d in omega arith
 
       go : (t : Bool) → (T t → n % d ≡ 0) → (T (not t) → 0 < n % d) → closest n d ≡ n / d + cond t 0 1
-      go true f g = ap (λ (m : ℕ). closest m d) (exact (f tt)) ∙ ties-to-even-rule.keeps false (n / d) d D ∙ sym (add-zero (n / d))
+      go true f g = ap (λ (m : ℕ). closest m d) (exact (f tt)) ∙ ties_to_even_rule.keeps false (n / d) d D ∙ sym (add-zero (n / d))
       go false f g = next (λ (l : closest n d ≤ n / d). short (g tt) (mul-le-mul_right d l))
 
 -- ---- the constants
@@ -150,9 +150,9 @@ module _ (x a : Float) (fx : T (fits binary32 x)) (e : a ≡ abs x) (small : lt 
   nearest_number =
       subst (λ (y : Float). T (not (is_nan y))) (sym nearest_is) (finite_number (round binary32 false w 1) (value_finite (round binary32 false w 1) false (w * 2 ^ 149) (2 ^ 149) (w_value false)))
 
-  pub round_sum : copysign (sub binary32 (add binary32 a whole) whole) x ≡ integral tiesToEven x
+  pub round_sum : copysign (sub binary32 (add binary32 a whole) whole) x ≡ integral ties_to_even x
   unfolding n w
-  round_sum = signed_is ∙ sym (found tiesToEven ties-to-even-rule)
+  round_sum = signed_is ∙ sym (found ties_to_even ties_to_even_rule)
 
   -- ---- downward: one less where the nearest is above x, for either sign
 
@@ -186,12 +186,12 @@ module _ (x a : Float) (fx : T (fits binary32 x)) (e : a ≡ abs x) (small : lt 
   floor_step true true h = less_negative ∙ ap (λ (i : ℕ). round binary32 true i 1) (toward_negative_next n (2 ^ 149) (pow_pos 149) (ltb→lt (w * 2 ^ 149) n (subst T (sym h) tt)))
   floor_step true false h = ap (λ (i : ℕ). round binary32 true i 1) (toward_negative_same n (2 ^ 149) (pow_pos 149) (nltb→le (w * 2 ^ 149) n (subst (λ (t : Bool). T (not t)) (sym h) tt)))
 
-  pub floor_near : (v : Float) → v ≡ integral tiesToEven x → cond (lt x v) (sub binary32 v one) v ≡ integral toward_negative x
+  pub floor_near : (v : Float) → v ≡ integral ties_to_even x → cond (lt x v) (sub binary32 v one) v ≡ integral toward_negative x
   unfolding n w
   floor_near v v_is = ap (λ (y : Float). cond (lt x v) (sub binary32 y one) y) v_whole ∙ floor_step (negative x) (lt x v) (sym beyond) ∙ sym (found toward_negative toward_negative_rule)
     where
       v_whole : v ≡ round binary32 (negative x) w 1
-      v_whole = v_is ∙ found tiesToEven ties-to-even-rule
+      v_whole = v_is ∙ found ties_to_even ties_to_even_rule
 
       beyond : lt x v ≡ below (negative x) n (negative x) (w * 2 ^ 149)
       beyond = ap (lt x) v_whole ∙ lt_is x (round binary32 (negative x) w 1) (negative x) (negative x) n (w * 2 ^ 149) (2 ^ 149) (pow_pos 149) x_is (w_value (negative x))

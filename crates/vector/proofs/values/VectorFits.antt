@@ -135,7 +135,7 @@ floor_vector a = each_fits Integral.floor (integral_fits Integral.toward_negativ
 
 pub round_vector : (a : Vec3) → F32Vec (round a)
 unfolding round
-round_vector a = each_fits Integral.round_even (integral_fits Integral.tiesToEven) a
+round_vector a = each_fits Integral.round_even (integral_fits Integral.ties_to_even) a
 
 pub quotient_vector : (a b : Vec3) → F32Vec (div_euclid a b)
 unfolding div_euclid

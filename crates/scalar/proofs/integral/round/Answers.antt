@@ -2,14 +2,14 @@
 use mathlib.Core.Path.{sym, ap, ◌∙◌, subst}
 use lib.Dec.{T}
 use lib.Ieee.{Float, lt}
-use Rattle.scalar.specs.Integral.{tiesToEven}
+use Rattle.scalar.specs.Integral.{ties_to_even}
 use Rattle.scalar.proofs.floats.BitsLaws.{equal_no_nan}
-use Rattle.scalar.proofs.whole_numbers.IntegralRules.{ties-to-even-rule}
+use Rattle.scalar.proofs.whole_numbers.IntegralRules.{ties_to_even_rule}
 use Rattle.scalar.proofs.whole_numbers.IntegralSums.{whole, large_stays, nan_stays}
 use Rattle.scalar.proofs.integral.round.Goals as goal
 
 pub returns-then-x : goal.returns-then-x
-returns-then-x c = nan_stays tiesToEven c.args.x c.if-x.true
+returns-then-x c = nan_stays ties_to_even c.args.x c.if-x.true
 
 pub size-requires : goal.size-requires
 size-requires c = equal_no_nan c.args.x c.if-x.false
@@ -20,4 +20,4 @@ near-requires c =
 
 pub returns : goal.returns
 returns c =
-    large_stays tiesToEven ties-to-even-rule c.args.x c.size.result (subst T (sym c.well_formed.0.1) tt) c.size.ensures c.if-size.false
+    large_stays ties_to_even ties_to_even_rule c.args.x c.size.result (subst T (sym c.well_formed.0.1) tt) c.size.ensures c.if-size.false

@@ -1,0 +1,6 @@
+-- `commands::refusal::row_out` meets its contract. Assumes nothing.
+use borrow.Author.Rules.{rules}
+use Rattle.commands.proofs.refusal.row_out.Goals as goal
+
+pub returns-then-used : goal.returns-then-used
+returns-then-used c = simp c.if-used.true

@@ -1,0 +1,11 @@
+-- `commands::refusal::uses_b` meets its contract. Assumes nothing.
+use borrow.Author.Rules.{rules}
+use Rattle.commands.specs.Fields.{is_used}
+use Rattle.commands.specs.Commands.{Entry, table, entry_at}
+use Rattle.commands.specs.CommandSets.{in_set}
+use Rattle.commands.proofs.CommandSetLaws.{column}
+use Rattle.commands.proofs.refusal.uses_b.Goals as goal
+
+pub returns : goal.returns
+unfolding in_set entry_at table
+returns c = column _ c.args.n (λ (e : Entry). is_used e.uses.b) c.is_in.ensures tt
