@@ -47,6 +47,7 @@ pub fn fields(line: &[u8], f: &mut [u32]) -> bool
 }
 
 // The number of the three columns from `at` on.
+#[tactic(auto, using(crate::proofs::columns::ColumnLaws::read_part, crate::proofs::numerals::NarrowLaws::fewer_digits))]
 fn field_of_3(line: &[u8], at: usize) -> Reading
     requires { at + 3 ≤ length line.now }
     ensures { result ≡ Columns.field_at at 3 line.now }
@@ -56,6 +57,7 @@ fn field_of_3(line: &[u8], at: usize) -> Reading
 }
 
 // The number of the eleven columns from `at` on. The width is a constant, so that the loops over it are unrolled.
+#[tactic(auto, using(crate::proofs::columns::ColumnLaws::read_part))]
 fn field_of_11(line: &[u8], at: usize) -> Reading
     requires { at + 11 ≤ length line.now }
     ensures { result ≡ Columns.field_at at 11 line.now }

@@ -7,13 +7,14 @@ use crate::ten_digits::put_ten;
 use std::num::wrapping_sub_u64;
 
 // The number that a field's digits give, or the word that they are ill formed.
-#[derive(Clone, Copy)]
+#[derive(Drop)]
 pub enum Reading {
     Value(u32),
     Ill,
 }
 
 // The part of the field after its blanks.
+#[tactic(auto, using(crate::proofs::numerals::ReadLaws::part_from, crate::proofs::numerals::ReadLaws::blank_more, crate::proofs::numerals::ReadLaws::blank_end, crate::proofs::numerals::ReadLaws::blank_all))]
 pub fn digits(field: &[u8]) -> &[u8]
     ensures { result.now ≡ Field.digits field.now }
 {
@@ -28,6 +29,7 @@ pub fn digits(field: &[u8]) -> &[u8]
 }
 
 // The number that decimal digits give.
+#[tactic(auto, using(crate::proofs::numerals::ReadLaws::long_ill), unfolding(crate::specs::Field::number))]
 pub fn number(digits: &[u8]) -> Reading
     ensures { result ≡ Field.number digits.now }
 {
@@ -44,6 +46,7 @@ pub fn number(digits: &[u8]) -> Reading
 }
 
 // Whether a zero has digits after it.
+#[tactic(auto, unfolding(crate::specs::Field::leading_zero))]
 fn leading_zero(digits: &[u8]) -> bool
     ensures { result ≡ Field.leading_zero digits.now }
 {
@@ -84,6 +87,7 @@ fn value(digits: &[u8]) -> Reading
 }
 
 // A number up to the limit.
+#[tactic(auto, unfolding(crate::specs::ColumnParts::limited))]
 fn limited(n: u64) -> Reading
     ensures { result ≡ ColumnParts.limited n }
 {
@@ -101,6 +105,7 @@ pub(crate) fn digit(b: u8) -> u64
 }
 
 // Writes the number, right-justified after blanks. A field with fewer columns than the number has digits gets its last digits.
+#[tactic(auto, using(crate::proofs::numerals::WriteLaws::spelt_none, crate::proofs::numerals::WriteLaws::spelt_one, crate::proofs::numerals::WriteLaws::spelt_more, crate::proofs::numerals::WriteLaws::spelt_all))]
 pub fn put_number(field: &mut [u8], n: u32)
     ensures { field.new ≡ Field.written (length field.old) n }
 {
@@ -129,6 +134,7 @@ pub fn put_number(field: &mut [u8], n: u32)
 }
 
 // Writes a number of one digit after blanks: unused values of an answer are 0, and refusals and kinds have one digit.
+#[tactic(auto, using(crate::proofs::numerals::NumeralLaws::digit_written))]
 fn put_digit(field: &mut [u8], n: u32)
     requires { (0 < length field.old) × (n < 10) }
     ensures { field.new ≡ Field.written (length field.old) n }
@@ -143,6 +149,7 @@ fn put_digit(field: &mut [u8], n: u32)
 }
 
 // The last digit of what is left of a number, or a blank where nothing is left.
+#[tactic(auto, unfolding(crate::specs::Field::glyph))]
 fn glyph(rest: u32) -> u8
     ensures { result ≡ Field.glyph rest }
 {

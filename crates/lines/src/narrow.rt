@@ -6,6 +6,7 @@ ghost use Rattle.lines.specs.ColumnParts as ColumnParts;
 
 use crate::field::{Reading, digit};
 
+#[tactic(auto, unfolding(crate::specs::ColumnParts::bit))]
 fn is_blank(b: u8) -> usize
     ensures { (result ≤ 1) × (result ≡ ColumnParts.bit (b == Field.blank)) }
 {
@@ -13,6 +14,7 @@ fn is_blank(b: u8) -> usize
 }
 
 // The part of the field after its blanks. A column counts where it is blank and those before it are.
+#[tactic(auto, using(crate::proofs::numerals::ReadLaws::part_from, crate::proofs::numerals::NarrowLaws::after_blanks))]
 pub(crate) fn digits(field: &[u8]) -> &[u8]
     requires { length field.now ≡ 3 }
     ensures { result.now ≡ Field.digits field.now }

@@ -1,5 +1,5 @@
 -- Answer lines: six fields and a line feed over the first 43 bytes. Assumes nothing.
-use Rattle.std.proofs.Common.{◌≡◌, ℕ, ◌<◌, ◌≤◌, Bool, true, false, ltb, List, [], ◌∷◌, length, drop, set, sym, refl, ◌∙◌, append_assoc, arith, length-append, length-drop, drop-cons, ltb-false, le-ltb, lt-ltb}
+use Rattle.std.proofs.Common.{◌≡◌, ℕ, ◌<◌, ◌≤◌, List, [], ◌∷◌, length, drop, set, sym, refl, ◌∙◌, append_assoc, arith, length-append, drop-cons, le-ltb, lt-ltb}
 use lib.Seq.{set_at}
 use Rattle.lines.specs.Columns.{text}
 use Rattle.lines.specs.ColumnParts.{put_field}
@@ -27,13 +27,3 @@ module _ (refusal row kind x y z : ℕ) where
   pub put_none : (out : List ℕ) → length out < 43 → out ≡ answer_into refusal row kind x y z out
   unfolding answer_into
   put_none out h = rw (lt-ltb _ _ h) refl
-
-  pub length_put : (out : List ℕ) → length (answer_into refusal row kind x y z out) ≡ length out
-  unfolding answer_into
-  length_put out = go (ltb (length out) 43) refl
-    where
-      go : (b : Bool) → ltb (length out) 43 ≡ b → length (answer_into refusal row kind x y z out) ≡ length out
-      go true e = rw e refl
-      go false e =
-          let h : 43 ≤ length out = ltb-false (length out) 43 e in
-          rw e (omega (arith, length-append (answer_line refusal row kind x y z) (drop 43 out), length_answer, length-drop 43 out))

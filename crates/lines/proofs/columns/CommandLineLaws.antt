@@ -8,11 +8,11 @@ use Rattle.lines.proofs.numerals.ReadLaws.{cond_same}
 
 -- the promise where nothing is read
 abbrev NotRead : List ℕ → List ℕ → Type 0
-NotRead l f = (false ≡ is_read (read_into l f)) × (f ≡ places_after (read_into l f) f)
+NotRead l f = record { read : false ≡ is_read (read_into l f); places : f ≡ places_after (read_into l f) f }
 
 not_read : (l f : List ℕ) → read_into l f ≡ none → NotRead l f
 unfolding is_read places_after
-not_read l f e = rw e (refl, refl)
+not_read l f e = rw e (record { read = refl; places = refl })
 
 few_none : (l f : List ℕ) → length f < 7 → read_into l f ≡ none
 unfolding read_into
@@ -51,6 +51,6 @@ module _ (l f : List ℕ) (n t a b u v w : ℕ) where
   unfolding read_into numbers numbers_at both
   read_seven lent long is_n is_t is_a is_b is_u is_v is_w = rw (le-ltb _ _ lent, eq-eqb _ _ long, is_n, is_t, is_a, is_b, is_u, is_v, is_w) refl
 
-  pub is_read_lem : (g : List ℕ) → read_into l f ≡ some seven → g ≡ seven ++ drop 7 f → (true ≡ is_read (read_into l f)) × (g ≡ places_after (read_into l f) f)
+  pub is_read_lem : (g : List ℕ) → read_into l f ≡ some seven → g ≡ seven ++ drop 7 f → record { read : true ≡ is_read (read_into l f); places : g ≡ places_after (read_into l f) f }
   unfolding is_read places_after
-  is_read_lem g e h = rw e (refl, h)
+  is_read_lem g e h = rw e (record { read = refl; places = h })

@@ -9,23 +9,9 @@ use Rattle.lines.proofs.numerals.ReadLaws.{cond_same}
 
 -- ---- the part after the blanks
 
-pub blank_one : (b : ℕ) → b ≡ 32 → 1 ≡ bit (eqb b 32)
-unfolding bit
-blank_one b e = rw (eq-eqb _ _ e) refl
-
-pub other_none : (b : ℕ) → (b ≡ 32 → ⊥) → 0 ≡ bit (eqb b 32)
-unfolding bit
-other_none b n = rw (ne_eqb _ _ n) refl
-
 -- how many of three columns are blank and have blanks alone before them
 abbrev pub blanks : ℕ → ℕ → ℕ → ℕ
 blanks a b c = bit (eqb a 32) * (1 + bit (eqb b 32) * (1 + bit (eqb c 32)))
-
-pub two_below : (j k : ℕ) → j ≤ 1 → k ≤ 1 → j * (1 + k) ≤ 2
-two_below j k q r = let s : 1 + k ≤ 2 = omega arith in mul-le-mul q s
-
-pub three_below : (i j k : ℕ) → i ≤ 1 → j ≤ 1 → k ≤ 1 → i * (1 + j * (1 + k)) ≤ 3
-three_below i j k p q r = let s : 1 + j * (1 + k) ≤ 3 = omega (arith, two_below j k q r) in mul-le-mul p s
 
 bytes_after : (a b c : ℕ) → drop (blanks a b c) (a ∷ b ∷ c ∷ []) ≡ digits (a ∷ b ∷ c ∷ [])
 unfolding digits bit

@@ -1,11 +1,11 @@
 -- Reading a field: the blanks before its digits, and the number of digits that are read one by one. Assumes nothing.
-use Rattle.std.proofs.Common.{◌≡◌, ℕ, suc, ◌+◌, ◌-◌, ◌*◌, ◌%◌, ◌^◌, ◌<◌, ◌≤◌, Bool, true, false, cond, ltb, List, [], ◌∷◌, length, get_or, take, drop, sym, refl, ap, ◌∙◌, le_trans, mul-le-mul_right, mul_assoc, mul_comm, pow-suc, add-one, arith, length-drop, drop_of_length-le, take_all, drop-cons, ltb-false, ltb-true, lt-ltb, eq-eqb, ne_eqb}
+use Rattle.std.proofs.Common.{◌≡◌, ℕ, suc, ◌+◌, ◌-◌, ◌*◌, ◌^◌, ◌<◌, ◌≤◌, Bool, true, false, cond, ltb, List, [], ◌∷◌, length, get_or, take, drop, sym, refl, ap, ◌∙◌, le_trans, mul-le-mul_right, mul_assoc, mul_comm, pow-suc, add-one, arith, length-drop, drop_of_length-le, take_all, drop-cons, ltb-false, ltb-true, lt-ltb, eq-eqb, ne_eqb}
 use native.Mathlib.Nat.{pow-le-pow_right}
 use borrow.Author.Tests.{lt-leb}
 use Rattle.lines.specs.declared.field.Reading.TheVariants.{Ill}
 use Rattle.lines.specs.Field.{digits, is_digit, decimal, value_from, limit, value, leading_zero}
-use Rattle.lines.specs.ColumnParts.{limited, DigitValue}
-use Rattle.lines.proofs.numerals.FieldMeaningLaws.{digit_is, no_digit}
+use Rattle.lines.specs.ColumnParts.{limited}
+use Rattle.lines.proofs.numerals.FieldMeaningLaws.{digit_is}
 
 -- ---- blanks
 
@@ -27,23 +27,12 @@ part_from l i = take_all (length l - i) (drop i l) (omega (arith, length-drop i 
 
 -- ---- digits
 
--- a byte less 48, modulo 2^64
-pub digit_value : (b r : ℕ) → r < 2 ^ 64 → (r + 48) % 2 ^ 64 ≡ b → DigitValue b r
-digit_value b r h e = record { digit = λ p. omega arith; other = λ p. no_digit b (λ lo hi. omega arith) }
-
 -- what is known of digits of which i are read, and gave n
 pub record Reads (l : List ℕ) (n i : ℕ) : Type 0 where
   pub within : i ≤ length l
   pub below : n < 10 ^ i
   pub decimals : decimal l ≡ decimal (drop i l)
   pub number : value_from 0 l ≡ value_from n (drop i l)
-
-pub reads_none : (l : List ℕ) → Reads l 0 0
-reads_none l = record { within = omega arith; below = omega arith; decimals = refl; number = refl }
-
--- nine digits and one more stay far below 2^64
-pub reads_below : (l : List ℕ) (n i : ℕ) → Reads l n i → i ≤ 9 → n < 1000000000
-reads_below l n i h k = let p : 10 ^ i ≤ 10 ^ 9 = pow-le-pow_right {n = 10} (omega arith) k in omega (arith, h.below)
 
 module _ (l : List ℕ) (n i : ℕ) (h : Reads l n i) (lt : i < length l) where
   pub reads_more : (a : ℕ) → get_or l i 0 ≡ 48 + a → a ≤ 9 → Reads l (n * 10 + a) (i + 1)
