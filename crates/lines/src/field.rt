@@ -7,7 +7,7 @@ use crate::ten_digits::put_ten;
 use std::num::wrapping_sub_u64;
 
 // The number that a field's digits give, or the word that they are ill formed.
-#[derive(Drop)]
+#[derive(Clone, Copy)]
 pub enum Reading {
     Value(u32),
     Ill,
