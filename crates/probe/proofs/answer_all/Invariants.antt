@@ -1,0 +1,15 @@
+-- `probe::answer_all` meets its contract. The loop keeps that what it produced is no more than an answer line for each byte consumed, and consumes no more bytes than there
+use Prim.Native.Nat.{◌*◌, ◌-◌, ◌≤◌}
+use mathlib.Core.Path.{◌≡◌, sym}
+use native.Mathlib.Omega.{arith}
+use lib.ListN.{length}
+use lib.Seq.{length-take-le}
+use Rattle.probe.specs.Bounds.{longest}
+use borrow.Author.Rules.{rules}
+use Rattle.probe.proofs.answer_all.Given as goal
+
+abbrev pub invariant-loop-i : goal.invariant-loop-i
+invariant-loop-i l = (length l.out ≡ length l.initial.out) × (l.produced ≤ l.i * longest) × (l.i ≤ length l.bytes)
+
+abbrev pub decreases-loop-i : goal.decreases-loop-i
+decreases-loop-i l = length l.bytes - l.i
