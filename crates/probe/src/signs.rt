@@ -26,6 +26,7 @@ pub(crate) fn answer(number: u32, values: &[u32; 10]) -> Answer
     }
 }
 
+#[tactic(auto, using(crate::proofs::NumberSigns::sign_of_number))]
 fn negative(a: u32) -> bool
     ensures { result ≡ Sign.sign_bit a }
 {
@@ -36,6 +37,7 @@ fn negative(a: u32) -> bool
     sign::is_sign_negative(x)
 }
 
+#[tactic(auto, using(crate::proofs::NumberSigns::copysign_of_numbers))]
 fn copysign(a: u32, b: u32) -> f32
     ensures { result ≡ Ieee.of_bits Ieee.binary32 (Sign.copysign_bits a b) }
 {
@@ -47,6 +49,7 @@ fn copysign(a: u32, b: u32) -> f32
     sign::copysign(x, y)
 }
 
+#[tactic(auto, using(crate::proofs::NumberSigns::bitmask_of_numbers))]
 fn negative_bitmask(x: u32, y: u32, z: u32) -> u32
     ensures { result ≡ Signs.is_negative_bitmask_bits x y z }
 {
@@ -58,6 +61,7 @@ fn negative_bitmask(x: u32, y: u32, z: u32) -> u32
 }
 
 // The vector (x, y, z) with the signs of (a, b, c).
+#[tactic(auto, using(crate::proofs::NumberSigns::copysign_of_vectors))]
 fn copysign_all(x: u32, y: u32, z: u32, a: u32, b: u32, c: u32) -> Vec3
     ensures { result ≡ Signs.copysign_bits x y z a b c }
 {

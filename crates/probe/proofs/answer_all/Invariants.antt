@@ -1,11 +1,7 @@
--- `probe::answer_all` meets its contract. The loop keeps that what it produced is no more than an answer line for each byte consumed, and consumes no more bytes than there
-use Prim.Native.Nat.{◌*◌, ◌-◌, ◌≤◌}
-use mathlib.Core.Path.{◌≡◌, sym}
-use native.Mathlib.Omega.{arith}
-use lib.ListN.{length}
-use lib.Seq.{length-take-le}
+-- The loop keeps that what it produced is no more than an answer line for each byte consumed, and consumes no more bytes than there are; the bytes that are not
+-- consumed become fewer.
+use Rattle.std.proofs.Common.{◌*◌, ◌-◌, ◌≤◌, ◌≡◌, length}
 use Rattle.probe.specs.Bounds.{longest}
-use borrow.Author.Rules.{rules}
 use Rattle.probe.proofs.answer_all.Given as goal
 
 abbrev pub invariant-loop-i : goal.invariant-loop-i

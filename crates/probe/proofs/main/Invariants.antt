@@ -1,7 +1,5 @@
 -- `probe::main` meets its contract, if the C library's `read` and `write` keep theirs. The loop keeps the lengths of the two buffers; the turns become fewer.
-use mathlib.Core.Path.{◌≡◌}
-use lib.ListN.{length}
-use borrow.Author.Rules.{rules}
+use Rattle.std.proofs.Common.{◌≡◌, length}
 use Rattle.probe.proofs.main.Given as goal
 
 abbrev pub invariant-loop-turns : goal.invariant-loop-turns

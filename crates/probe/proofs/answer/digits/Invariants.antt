@@ -1,6 +1,5 @@
--- `probe::answer::digits` meets its contract. The loop keeps the count at ten at the most; what is left up to ten falls.
-use Prim.Native.Nat.{◌-◌, ◌≤◌}
-use borrow.Author.Rules.{rules}
+-- The loop keeps the count at ten at the most; what is left up to ten falls.
+use Rattle.std.proofs.Common.{◌-◌, ◌≤◌}
 use Rattle.probe.proofs.answer.digits.Given as goal
 
 abbrev pub invariant-loop-rest : goal.invariant-loop-rest

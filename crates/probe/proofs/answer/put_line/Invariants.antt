@@ -1,9 +1,5 @@
--- `probe::answer::put_line` meets its contract. The loop keeps the place behind the i results within 11 bytes a result and 10 for the refusal; the results that are
-use Prim.Native.Nat.{◌+◌, ◌*◌, ◌-◌, ◌≤◌}
-use mathlib.Core.Path.{◌≡◌}
-use native.Mathlib.Omega.{arith}
-use lib.ListN.{length, length-set}
-use borrow.Author.Rules.{rules}
+-- The loop keeps the place behind the i results within 11 bytes a result and 10 for the refusal; the results that are not written yet become fewer.
+use Rattle.std.proofs.Common.{◌+◌, ◌*◌, ◌-◌, ◌≤◌, ◌≡◌, length}
 use Rattle.probe.proofs.answer.put_line.Given as goal
 
 abbrev pub invariant-loop-i : goal.invariant-loop-i

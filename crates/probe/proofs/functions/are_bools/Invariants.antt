@@ -1,6 +1,5 @@
--- `probe::functions::are_bools` meets its contract. The loop stays at the bools or before them; those that are not read yet become fewer.
-use Prim.Native.Nat.{◌≤◌, ◌-◌}
-use borrow.Author.Rules.{rules}
+-- The loop stays at the bools or before them; those that are not read yet become fewer.
+use Rattle.std.proofs.Common.{◌≤◌, ◌-◌}
 use Rattle.probe.proofs.functions.are_bools.Given as goal
 
 abbrev pub invariant-loop-i : goal.invariant-loop-i

@@ -1,5 +1,4 @@
 -- `probe::others::component` meets its contract.
-use borrow.Author.Rules.{rules}
 use lib.Ieee.{binary32, of_bits, to_bits}
 use Rattle.vector.specs.Indexed as Indexed
 use Rattle.probe.proofs.AnswerShows.{shows}
