@@ -9,8 +9,7 @@ use lib.IntN.{ℤ, pos, negsuc}
 use lib.Signed.{le_z, lt_z}
 use lib.ListN.{length, take, length-append}
 use lib.Seq.{length-take-le, take-take}
-use Rattle.libc.specs.Io.{Moved}
-use Rattle.io.specs.Counts.{clamp_len}
+use Rattle.bench.specs.Counts.{Moved, clamp_len}
 use Rattle.sheet.specs.Words.{lent_step}
 use Rattle.stream.specs.declared.Stream.{Stream}
 use Rattle.stream.specs.Stream.{Held, held, text_of, feed_of, ended_of}

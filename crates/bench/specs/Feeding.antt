@@ -2,8 +2,7 @@
 -- 01, "Lines": "The program reads standard input and answers each line, refused ones included"). No contract can say what was read or written: the bytes of a read
 -- are those that lie in the chunk after it, and of a write it can be said how many bytes of which answers `write_all` was given.
 use Rattle.std.specs.Prelude.{ℕ, zero, suc, ◌*◌, ◌≤◌, ◌≡◌, Bool, true, cond, List, [], length, take, ℤ, pos, negsuc}
-use Rattle.libc.specs.Io.{Moved}
-use Rattle.io.specs.Counts.{clamp_len}
+use Rattle.bench.specs.Counts.{Moved, clamp_len}
 use Rattle.sheet.specs.Words.{lent_step}
 use Rattle.stream.specs.Stream.{Held, held, text_of, feed_of, FedInto, EndedInto, ended_of}
 use Rattle.bench.specs.declared.answer.Answered.{Answered}

@@ -5,7 +5,8 @@ ghost use Rattle.sheet.specs.Words.{lent_step};
 ghost use Rattle.stream.specs.Stream.{held, text_of, fed_into, ended_of};
 ghost use Rattle.bench.specs.Feeding.{most, handed_by, last_by, AllFed};
 
-use libc::STDOUT_FILENO;
+use crate::standard::write_all;
+use std::io::Stdout;
 use stream::Stream;
 
 // The stream after some bytes, how many of them it consumed, how many bytes of answers were handed to `write_all`, and whether it wrote them.
@@ -18,14 +19,20 @@ pub(crate) struct Answered {
 }
 
 // Feeds the stream once, and writes the answers.
-fn answer_some(stream: Stream, state: &mut [u32], bytes: &[u8], out: &mut [u8]) -> Answered
+fn answer_some(
+    stdout: Stdout,
+    stream: Stream,
+    state: &mut [u32],
+    bytes: &[u8],
+    out: &mut [u8],
+) -> Answered
     ensures { handed_by state.new result out.new ≡ fed_into lent_step (held state.old (text_of stream)) bytes.now out.old }
 {
     let t = stream.feed(state, bytes, out);
     let s = t.stream;
     let produced = t.produced;
     let answers = &out[..produced];
-    let written = io::write_all(STDOUT_FILENO, answers);
+    let written = write_all(stdout, answers);
     Answered {
         stream: s,
         consumed: t.consumed,
@@ -36,6 +43,7 @@ fn answer_some(stream: Stream, state: &mut [u32], bytes: &[u8], out: &mut [u8]) 
 
 // Feeds the stream with all the bytes, in as many turns as the answers need room, unless a write fails.
 pub(crate) fn answer_all(
+    stdout: Stdout,
     stream: Stream,
     state: &mut [u32],
     bytes: &[u8],
@@ -48,7 +56,7 @@ pub(crate) fn answer_all(
     let mut at: usize = 0;
     let mut handed: usize = 0;
     while at < bytes.len() {
-        let t = answer_some(s, state, &bytes[at..], out);
+        let t = answer_some(stdout, s, state, &bytes[at..], out);
         s = t.stream;
         at += t.consumed;
         handed += t.handed;
@@ -80,13 +88,13 @@ pub(crate) struct Last {
 }
 
 // Answers the bytes that are left at the end of the input.
-pub(crate) fn answer_end(stream: Stream, out: &mut [u8]) -> Last
+pub(crate) fn answer_end(stdout: Stdout, stream: Stream, out: &mut [u8]) -> Last
     ensures { last_by result out.new ≡ ended_of (text_of stream) out.old }
 {
     let e = stream.ended(out);
     let produced = e.produced;
     let answer = &out[..produced];
-    let written = io::write_all(STDOUT_FILENO, answer);
+    let written = write_all(stdout, answer);
     Last {
         handed: answer.len(),
         refusal: e.refusal,

@@ -5,7 +5,8 @@ ghost use Rattle.stream.specs.Stream.{held, text_of};
 ghost use Rattle.bench.specs.Feeding.{most, GotFed, ReadFed, InputFed};
 
 use crate::answer::{answer_all, answer_end};
-use libc::STDIN_FILENO;
+use crate::standard::{count, read};
+use std::io::{Stdin, Stdout};
 use stream::Stream;
 
 // Whether there is more to read, or why not.
@@ -26,7 +27,14 @@ struct Turn {
 }
 
 // What a read answered: the number of bytes at the start of the chunk, 0 at the end of the input, or -1.
-fn answer_read(stream: Stream, state: &mut [u32], got: isize, chunk: &[u8], out: &mut [u8]) -> Turn
+fn answer_read(
+    stdout: Stdout,
+    stream: Stream,
+    state: &mut [u32],
+    got: isize,
+    chunk: &[u8],
+    out: &mut [u8],
+) -> Turn
     requires { (answer_length ≤ length out.old) × (length chunk.now ≤ most) }
     ensures { GotFed (held state.old (text_of stream)) got chunk.now state.new result }
 {
@@ -45,8 +53,8 @@ fn answer_read(stream: Stream, state: &mut [u32], got: isize, chunk: &[u8], out:
             status: Status::Ended,
         };
     }
-    let n = io::count(got, chunk);
-    let a = answer_all(stream, state, &chunk[..n], out);
+    let n = count(got, chunk);
+    let a = answer_all(stdout, stream, state, &chunk[..n], out);
     let s = a.stream;
     let written = a.written;
     if written {
@@ -64,12 +72,19 @@ fn answer_read(stream: Stream, state: &mut [u32], got: isize, chunk: &[u8], out:
 }
 
 // Reads once, and answers the lines that ended.
-fn read_once(stream: Stream, state: &mut [u32], chunk: &mut [u8], out: &mut [u8]) -> Turn
+fn read_once(
+    stdin: Stdin,
+    stdout: Stdout,
+    stream: Stream,
+    state: &mut [u32],
+    chunk: &mut [u8],
+    out: &mut [u8],
+) -> Turn
     requires { (answer_length ≤ length out.old) × (length chunk.old ≤ most) }
     ensures { ReadFed (held state.old (text_of stream)) chunk.new state.new result }
 {
-    let got = libc::read(STDIN_FILENO, chunk);
-    answer_read(stream, state, got, chunk, out)
+    let got = read(stdin, chunk);
+    answer_read(stdout, stream, state, got, chunk, out)
 }
 
 // How many reads brought bytes, and why no more were made.
@@ -81,14 +96,20 @@ pub(crate) struct Answers {
 
 // Answers the lines of standard input, and at its end the bytes that are left. A proved loop has to end, so this one counts its reads, up to a number that no
 // run comes to.
-pub(crate) fn answer_input(state: &mut [u32], chunk: &mut [u8], out: &mut [u8]) -> Answers
+pub(crate) fn answer_input(
+    stdin: Stdin,
+    stdout: Stdout,
+    state: &mut [u32],
+    chunk: &mut [u8],
+    out: &mut [u8],
+) -> Answers
     requires { (answer_length ≤ length out.old) × (length chunk.old ≤ most) }
     ensures { InputFed state.old state.new out.new result }
 {
     let mut stream = Stream::fresh();
     let mut reads: u64 = 0;
     while reads < u64::MAX {
-        let t = read_once(stream, state, chunk, out);
+        let t = read_once(stdin, stdout, stream, state, chunk, out);
         stream = t.stream;
         let status = t.status;
         match status {
@@ -97,7 +118,7 @@ pub(crate) fn answer_input(state: &mut [u32], chunk: &mut [u8], out: &mut [u8]) 
                 continue;
             }
             Status::Ended => {
-                let last = answer_end(stream, out);
+                let last = answer_end(stdout, stream, out);
                 let written = last.written;
                 if written {
                     return Answers {
