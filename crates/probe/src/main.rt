@@ -19,7 +19,7 @@ ghost use Rattle.probe.specs.Bounds.{longest};
 use answer::{Answer, MALFORMED, put_line, refused};
 use call::{Call, Field, kept};
 use functions::answer_to;
-use libc::{STDERR_FILENO, STDIN_FILENO, STDOUT_FILENO};
+use std::io::{Print, Read, Stderr};
 
 // How many bytes are read at a time: as many longest lines fit a buffer of 65,536 bytes.
 const CHUNK: usize = 851;
@@ -45,7 +45,13 @@ fn answer_of(call: Call, values: &mut [u32; 10]) -> Answer
 }
 
 // Answers the lines that end in the bytes.
-fn answer_all(call: Call, values: &mut [u32; 10], bytes: &[u8], out: &mut [u8]) -> Turn
+fn answer_all(
+    rt: HostRuntime,
+    call: Call,
+    values: &mut [u32; 10],
+    bytes: &[u8],
+    out: &mut [u8],
+) -> Turn
     requires { length bytes.now * longest ≤ length out.old }
     ensures { result.consumed ≡ length bytes.now }
 {
@@ -62,7 +68,7 @@ fn answer_all(call: Call, values: &mut [u32; 10], bytes: &[u8], out: &mut [u8]) 
         produced = put_line(out, produced, answer_of(line, values));
         line = Call::fresh();
     }
-    let goes_on = write(&out[..produced]);
+    let goes_on = write(rt, &out[..produced]);
     Turn {
         call: line,
         consumed: i,
@@ -71,46 +77,49 @@ fn answer_all(call: Call, values: &mut [u32; 10], bytes: &[u8], out: &mut [u8]) 
 }
 
 // Answers the bytes behind the last line feed, which are malformed, or says that the input could not be read.
-fn end(call: Call, failed: bool) {
+fn end(rt: HostRuntime, call: Call, failed: bool) {
     if failed {
-        report(b"probe: reading standard input failed\n");
+        report(rt.stderr(), b"probe: reading standard input failed\n");
         return;
     }
     if call.started() {
-        write(b"1\n");
+        write(rt, b"1\n");
     }
 }
 
 // Writes the bytes to standard output, and says so where that fails.
-fn write(bytes: &[u8]) -> bool {
-    if io::write_all(STDOUT_FILENO, bytes) {
+fn write(rt: HostRuntime, bytes: &[u8]) -> bool {
+    if rt.stdout().write_all(bytes).is_ok() {
         return true;
     }
-    report(b"probe: writing standard output failed\n");
+    report(rt.stderr(), b"probe: writing standard output failed\n");
     false
 }
 
 // Writes a message to standard error. Nothing is left to say where that fails too.
-fn report(message: &[u8]) {
-    io::write_all(STDERR_FILENO, message);
+fn report(stderr: Stderr, message: &[u8]) {
+    let _written = stderr.write_all(message).is_ok();
 }
 
 // A proved loop has to end, so this one counts its turns down, from a number that no run uses up.
-fn main() {
+fn main(rt: HostRuntime) {
     let mut call = Call::fresh();
     let mut values = [0u32; 10];
     let mut chunk = [0u8; CHUNK];
-    let mut out = io::large_buffer();
+    let mut out = [0u8; 65536];
+    let mut input = rt.stdin();
     let mut turns = u64::MAX;
     while 0 < turns {
         turns -= 1;
-        let got = libc::read(STDIN_FILENO, &mut chunk);
-        if got <= 0 {
-            end(call, got < 0);
+        let Ok(n) = input.read(&mut chunk) else {
+            end(rt, call, true);
+            return;
+        };
+        if n == 0 {
+            end(rt, call, false);
             return;
         }
-        let n = io::count(got, &chunk);
-        let t = answer_all(call, &mut values, &chunk[..n], &mut out);
+        let t = answer_all(rt, call, &mut values, &chunk[..n], &mut out);
         if !t.goes_on {
             return;
         }

@@ -9,7 +9,7 @@ use Rattle.commands.specs.Rows.{State, fresh}
 use Rattle.commands.specs.Fields.{command_of}
 use Rattle.commands.specs.Answers.{ModelAnswer, refused}
 use Rattle.commands.specs.Claim.{Sound, AllWell, Claim}
-use Rattle.sheet.specs.Words.{fresh_words, state_words, model_of, lent_step}
+use Rattle.sheet.specs.Words.{fresh_words, state_words, model_of}
 use Rattle.lines.specs.CommandLine.{numbers}
 use Rattle.lines.specs.AnswerLine.{answer_length}
 use Rattle.stream.specs.Responses.{answer_text, Responds}

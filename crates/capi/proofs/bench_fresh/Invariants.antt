@@ -1,13 +1,9 @@
 -- `capi::bench_fresh` meets its contract. Invariant: the first i words are 0, the others as they were; measure: the words of the sheet that are left. Assumes nothing.
-use Prim.Native.Nat.{◌-◌, ◌≤◌, zero-le}
-use mathlib.Core.Path.{◌≡◌, refl, ap, ◌∙◌}
-use mathlib.Core.List.{List, ◌++◌}
-use native.Mathlib.Omega.{arith}
-use native.Mathlib.Numerals.{add-one-le}
-use borrow.Author.Fill.{fill_more}
-use lib.ListN.{length, set, drop, replicate, length-set}
+use Prim.Native.Nat.{◌-◌, ◌≤◌}
+use mathlib.Core.Path.{◌≡◌}
+use mathlib.Core.List.{◌++◌}
+use lib.ListN.{length, drop, replicate}
 use Rattle.sheet.specs.Words.{state_words}
-use Rattle.capi.proofs.FreshLaws.{fresh_short, fresh_done}
 use Rattle.capi.proofs.bench_fresh.Given as goal
 
 abbrev pub invariant-loop-i : goal.invariant-loop-i

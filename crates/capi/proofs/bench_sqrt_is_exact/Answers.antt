@@ -1,6 +1,5 @@
 -- `capi::bench_sqrt_is_exact` meets its contract. Assumes nothing.
 use mathlib.Core.Path.{ap, ◌∙◌}
-use borrow.Author.Rules.{rules}
 use Rattle.scalar.specs.declared.root.MarkedRoot.{MarkedRoot}
 use Rattle.scalar.specs.ExactRoot.{root_and_exactness}
 use Rattle.vector.specs.Masks.{bit}

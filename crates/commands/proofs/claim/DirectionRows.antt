@@ -1,10 +1,8 @@
 -- The directions that commands write without a test: 22 to 24, which always have one (vector's specs/NeverZero), and 34, whose normal is the direction in row b.
 -- Assumes nothing.
-use Prim.Native.Nat.{ℕ, ◌*◌, ◌^◌, ◌≤◌}
+use Prim.Native.Nat.{ℕ, ◌≤◌}
 use native.Mathlib.Omega.{arith}
 use mathlib.Core.Path.{refl}
-use Rattle.laws.specs.Within.{Within}
-use Rattle.vector.specs.declared.vec3.Vec3.{Vec3}
 use Rattle.vector.specs.Optics.{reflect, refract}
 use Rattle.vector.specs.Orthogonal.{any_orthonormal_pair}
 use Rattle.vector.specs.ExactVectors.{Direction}

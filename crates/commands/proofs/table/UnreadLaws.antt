@@ -1,8 +1,8 @@
 -- A source row above 63 does not matter: a command that uses it is refused by 2 or 3, and one that does not use it never reads it. Assumes nothing.
 use Prim.Native.Nat.{ℕ, ◌≤◌, ◌<◌}
 use mathlib.Core.Path.{◌≡◌, refl, sym, subst, ◌∙◌}
-use mathlib.Core.Bool.{Bool, true, false, ◌&&◌, ◌||◌, true≢false, false≢true}
-use lib.Dec.{eqb, ltb}
+use mathlib.Core.Bool.{Bool, true, false, ◌||◌, true≢false, false≢true}
+use lib.Dec.{eqb}
 use borrow.Author.Tests.{eqb-true, lt-ltb}
 use Rattle.laws.proofs.numbers.BoolLaws.{or_true}
 use Rattle.commands.specs.declared.command.Command.{Command}

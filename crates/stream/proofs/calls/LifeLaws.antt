@@ -11,8 +11,7 @@ use Rattle.commands.specs.declared.command.Command.{Command}
 use Rattle.commands.specs.Rows.{State}
 use Rattle.commands.specs.Fields.{command_of}
 use Rattle.commands.specs.Answers.{refused}
-use Rattle.commands.specs.Model.{Stepped, stepped, Ran, run_by}
-use Rattle.commands.specs.Claim.{Claim}
+use Rattle.commands.specs.Model.{Stepped, stepped, run_by}
 use Rattle.commands.proofs.ClaimLaws.{model_claim}
 use Rattle.sheet.specs.Words.{fresh_words, state_words, model_of, lent_step, lent_run}
 use Rattle.sheet.proofs.LentLaws.{lent_claim}

@@ -10,7 +10,6 @@ use Rattle.laws.specs.Within.{Within}
 use Rattle.laws.proofs.values.ValueLaws.{Value}
 use Rattle.laws.proofs.operations.RoundedOperations.{Sized, mul_near, sub_near}
 use Rattle.vector.proofs.values.SignedVectors.{D, E, sides, size_of_sum, plain_sign}
-use Rattle.vector.specs.Operators.{sub}
 use Rattle.vector.proofs.values.CombinationLaws.{Component, component_of}
 use Rattle.vector.proofs.rays.RefractNumbers.{bent_product, bent_first, bent_second, bent_third, r_room, r_le, wider}
 

@@ -1,12 +1,12 @@
 -- The direction without a test: by the bits of the largest size it is worked out of every vector of f32 values, since beside a component that is not finite the power
 -- does not matter. Assumes nothing.
-use mathlib.Core.Path.{◌≡◌, refl, sym, ap, ap₂, ◌∙◌, subst}
+use mathlib.Core.Path.{◌≡◌, refl, sym, ap, ap₂, ◌∙◌}
 use mathlib.Core.Bool.{Bool, true, false, cond, not, ◌||◌, true≢false}
 use Prim.Native.Nat.{ℕ, ◌+◌, ◌*◌, ◌^◌, ◌≤◌, ◌<◌}
 use native.Mathlib.Nat.{not-le_of_lt, mul-pos, zero-mul, mul-zero}
 use native.Mathlib.Omega.{arith}
 use lib.Dec.{T, ltb, ltb→lt, nltb→le}
-use lib.IntN.{ℤ, pos}
+use lib.IntN.{pos}
 use lib.Ieee.{Float, nan, inf, fin, binary32, up, down, unlike, fits, of_bits, is_nan, round, add, sum, mul, div}
 use lib.Ieee.Bits.{is_false}
 use lib.Ieee.Fits.{down_pos}

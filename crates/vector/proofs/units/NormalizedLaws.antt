@@ -1,7 +1,7 @@
 -- N: the computed squared length of a vector whose exact one is near 1, and that such a vector `is_normalized`. Assumes nothing.
 use mathlib.Core.Path.{◌≡◌, refl, sym, subst}
 use mathlib.Core.Bool.{true, false}
-use Prim.Native.Nat.{ℕ, ◌+◌, ◌-◌, ◌*◌, ◌^◌, ◌≤◌, ◌<◌}
+use Prim.Native.Nat.{ℕ, ◌+◌, ◌*◌, ◌^◌, ◌≤◌, ◌<◌}
 use native.Mathlib.Nat.{le_trans, lt_of_le_of_lt}
 use lib.Dec.{lit≤, lit<}
 use lib.Pow.{pow_pos}

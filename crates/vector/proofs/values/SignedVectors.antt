@@ -2,7 +2,7 @@
 -- that have these values. Assumes nothing.
 use mathlib.Core.Path.{◌≡◌, refl, sym, ap₂}
 use mathlib.Core.Bool.{Bool, true, false}
-use Prim.Native.Nat.{ℕ, ◌+◌, ◌-◌, ◌*◌, ◌≤◌}
+use Prim.Native.Nat.{ℕ, ◌+◌, ◌*◌, ◌≤◌}
 use native.Mathlib.Nat.{mul_comm, le_of_eq, zero-mul, mul-zero}
 use native.Mathlib.Omega.{arith}
 use lib.Ieee.{binary32, of_bits, unlike}

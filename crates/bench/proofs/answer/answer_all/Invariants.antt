@@ -1,11 +1,9 @@
 -- `bench::answer::answer_all` meets its contract, if the C library's `write` keeps its own.
-use borrow.Author.Rules.{rules}
-use Prim.Native.Nat.{◌+◌, ◌-◌, ◌≤◌, ◌<◌}
-use mathlib.Core.Path.{◌≡◌, refl}
-use native.Mathlib.Omega.{arith}
+use Prim.Native.Nat.{◌-◌}
+use mathlib.Core.Path.{◌≡◌}
 use lib.ListN.{length}
 use Rattle.stream.specs.Stream.{held, text_of}
-use Rattle.bench.proofs.FeedingLaws.{FedTo, fed_none, fed_part, fed_some, fed_more, handed_most}
+use Rattle.bench.proofs.FeedingLaws.{FedTo}
 use Rattle.bench.proofs.answer.answer_all.Given as goal
 
 abbrev pub invariant-loop-at : goal.invariant-loop-at

@@ -2,12 +2,10 @@
 -- What holds at the loop's test: the bytes of the reads so far, one after another, are fed (`Fed`), and the lent slices are as long as they were. It ends, since the
 -- reads that can still be counted grow fewer.
 use borrow.Author.Rules.{rules}
-use Prim.Native.Nat.{◌-◌, ◌^◌}
-use mathlib.Core.Path.{◌≡◌, refl, ap}
+use mathlib.Core.Path.{refl, ap}
 use native.Mathlib.Omega.{arith}
-use lib.ListN.{length}
-use Rattle.stream.specs.Stream.{EndedInto, text_of}
-use Rattle.bench.proofs.ReadLaws.{Fed, nothing_read, joined_fed, read_more, read_ended, apart, input_ended, input_left}
+use Rattle.stream.specs.Stream.{EndedInto}
+use Rattle.bench.proofs.ReadLaws.{nothing_read, joined_fed, read_more, read_ended, apart, input_ended, input_left}
 use Rattle.bench.proofs.input.answer_input.Goals as goal
 
 pub loop-reads-init : goal.loop-reads-init

@@ -1,11 +1,9 @@
 -- `bench::input::answer_input` meets its contract, if the C library's `read` and `write` keep theirs.
-use borrow.Author.Rules.{rules}
 use Prim.Native.Nat.{◌-◌, ◌^◌}
-use mathlib.Core.Path.{◌≡◌, refl, ap}
-use native.Mathlib.Omega.{arith}
+use mathlib.Core.Path.{◌≡◌}
 use lib.ListN.{length}
-use Rattle.stream.specs.Stream.{EndedInto, text_of}
-use Rattle.bench.proofs.ReadLaws.{Fed, nothing_read, joined_fed, read_more, read_ended, apart, input_ended, input_left}
+use Rattle.stream.specs.Stream.{text_of}
+use Rattle.bench.proofs.ReadLaws.{Fed}
 use Rattle.bench.proofs.input.answer_input.Given as goal
 
 abbrev pub invariant-loop-reads : goal.invariant-loop-reads

@@ -2,9 +2,7 @@
 use borrow.Author.Rules.{rules}
 use mathlib.Core.Bool.{true, false}
 use mathlib.Core.Path.{◌≡◌, refl}
-use lib.IntN.{pos}
 use lib.ListN.{length}
-use lib.Signed.{le_z, lt_z}
 use mir.Syntax.{w64}
 use mir.Val.{to_z, of_z}
 use Rattle.bench.proofs.ReadLaws.{got_failed, got_ended, got_answered}

@@ -1,7 +1,6 @@
 -- `bench::input::read_once` meets its contract, if the C library's `read` and `write` keep theirs.
 use borrow.Author.Rules.{rules}
 use mathlib.Core.Path.{◌≡◌}
-use lib.ListN.{length}
 use mir.Syntax.{w64}
 use mir.Val.{to_z, of_z}
 use Rattle.bench.proofs.input.read_once.Goals as goal

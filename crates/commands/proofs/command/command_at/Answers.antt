@@ -1,6 +1,4 @@
 -- `commands::command::command_at` meets its contract: its two tests stand for `length numbers < at + 7`. Assumes nothing.
-use native.Mathlib.Omega.{arith}
-use borrow.Author.Rules.{rules}
 use Rattle.commands.proofs.command.command_at.Goals as goal
 
 pub returns-then-numbers-lt7 : goal.returns-then-numbers-lt7

@@ -1,6 +1,5 @@
 -- `commands::command::fewer_at` meets its contract. Assumes nothing.
 use Rattle.commands.specs.Fields.{command_of}
-use borrow.Author.Rules.{rules}
 use Rattle.commands.proofs.command.fewer_at.Goals as goal
 
 pub returns : goal.returns

@@ -4,7 +4,6 @@ use mathlib.Core.Path.{◌≡◌}
 use native.Mathlib.Omega.{arith}
 use lib.Seq.{get_or-drop}
 use Rattle.commands.specs.Fields.{command_of}
-use borrow.Author.Rules.{rules}
 use Rattle.commands.proofs.command.seven_at.Goals as goal
 
 pub returns : goal.returns

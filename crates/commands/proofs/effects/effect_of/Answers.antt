@@ -1,10 +1,8 @@
 -- `commands::effects::effect_of` meets its contract. Assumes nothing.
-use mathlib.Core.Path.{sym, ◌∙◌}
 use borrow.Author.Tests.{ne_eqb}
 use Rattle.commands.specs.Answers.{answer_of}
 use Rattle.commands.specs.Effects.{effect_by, unless_refused}
 use Rattle.commands.proofs.FirstLaws.{early_or_late}
-use borrow.Author.Rules.{rules}
 use Rattle.commands.proofs.effects.effect_of.Goals as goal
 
 pub returns-then-k-eq0 : goal.returns-then-k-eq0

@@ -21,7 +21,6 @@ use Rattle.commands.specs.Commands.{table, entry_at}
 use Rattle.commands.specs.Refusals.{no_refraction, no_meeting, no_factor}
 use Rattle.commands.specs.Effects.{ModelEffect, unless, settled}
 use Rattle.commands.proofs.LateLaws.{in_order, arm, past_table}
-use borrow.Author.Rules.{rules}
 use Rattle.commands.proofs.effects.late_effect.Goals as goal
 
 -- the effects that the functions in effects/ give for a vector, a pair, a number or a root

@@ -1,5 +1,4 @@
 -- `commands::effects::values` meets its contract. Assumes nothing.
-use borrow.Author.Rules.{rules}
 use Rattle.commands.proofs.effects.values.Goals as goal
 
 pub returns : goal.returns

@@ -1,7 +1,6 @@
 -- `commands::refusal::bad_a` meets its contract. Assumes nothing.
 use Prim.Native.Nat.{ℕ}
 use mathlib.Core.Path.{ap, ◌∙◌}
-use borrow.Author.Rules.{rules}
 use Rattle.commands.specs.Fields.{allows, Uses}
 use Rattle.commands.specs.Commands.{table, entry_at}
 use Rattle.commands.specs.CommandSets.{in_set}

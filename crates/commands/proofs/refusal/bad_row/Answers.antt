@@ -3,7 +3,6 @@ use Prim.Native.Nat.{ℕ}
 use mathlib.Core.Path.{◌≡◌, refl}
 use mathlib.Core.Bool.{Bool, true, false, cond, not, beq, false≢true}
 use lib.Dec.{eqb}
-use borrow.Author.Rules.{rules}
 use Rattle.commands.specs.Codes.{plane_kind}
 use Rattle.commands.specs.Fields.{Kinds, Unused, Vectors, Points, Directions, Planes, Filled, is_used, allows}
 use Rattle.commands.specs.Commands.{Entry, table, entry_at}

@@ -1,5 +1,4 @@
 -- `commands::refusal::bad_source` meets its contract. Assumes nothing.
-use borrow.Author.Rules.{rules}
 use Rattle.commands.specs.Refusals.{bad_source}
 use Rattle.commands.proofs.refusal.bad_source.Goals as goal
 
@@ -14,9 +13,9 @@ returns-then-bad_b c = simp (c.if-bad_b.true, ← c.bad_b.ensures, c.if-bad_a.fa
 pub returns : goal.returns
 unfolding bad_source
 returns c = simp (
-      ← c.bad_row.ensures,
-      c.if-bad_b.false,
-      ← c.bad_b.ensures,
-      c.if-bad_a.false,
-      ← c.bad_a.ensures,
-    )
+  ← c.bad_row.ensures,
+  c.if-bad_b.false,
+  ← c.bad_b.ensures,
+  c.if-bad_a.false,
+  ← c.bad_a.ensures,
+)

@@ -4,7 +4,6 @@ use mathlib.Core.Path.{◌≡◌}
 use mathlib.Core.Bool.{Bool, false, not, ◌&&◌}
 use lib.Ieee.{binary32, of_bits}
 use lib.Ieee.Scale.{finite}
-use borrow.Author.Rules.{rules}
 use Rattle.commands.specs.Commands.{entry_at}
 use Rattle.commands.specs.Refusals.{bad_value}
 use Rattle.commands.proofs.refusal.bad_value.Goals as goal

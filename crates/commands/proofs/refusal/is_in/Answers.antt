@@ -1,5 +1,4 @@
 -- `commands::refusal::is_in` meets its contract. Assumes nothing.
-use borrow.Author.Rules.{rules}
 use borrow.Author.Tests.{le-leb, lt-leb}
 use Rattle.commands.specs.CommandSets.{in_set}
 use Rattle.commands.proofs.refusal.is_in.Goals as goal

@@ -3,7 +3,6 @@ use Prim.Native.Nat.{ℕ}
 use mathlib.Core.Path.{◌≡◌}
 use mathlib.Core.Bool.{Bool, false, ◌&&◌}
 use lib.Dec.{ltb}
-use borrow.Author.Rules.{rules}
 use Rattle.commands.specs.Fields.{is_used}
 use Rattle.commands.specs.Commands.{entry_at}
 use Rattle.commands.specs.Refusals.{no_row}

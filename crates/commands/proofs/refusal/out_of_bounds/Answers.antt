@@ -1,5 +1,4 @@
 -- `commands::refusal::out_of_bounds` meets its contract. Assumes nothing.
-use borrow.Author.Rules.{rules}
 use Rattle.commands.proofs.refusal.out_of_bounds.Goals as goal
 
 pub returns-then-x-high : goal.returns-then-x-high

@@ -1,5 +1,4 @@
 -- `commands::refusal::out_of_order` meets its contract. Assumes nothing.
-use borrow.Author.Rules.{rules}
 use Rattle.commands.specs.Refusals.{out_of_order}
 use Rattle.commands.proofs.refusal.out_of_order.Goals as goal
 

@@ -1,5 +1,4 @@
 -- `commands::refusal::out_of_range` meets its contract. Assumes nothing.
-use borrow.Author.Rules.{rules}
 use Rattle.commands.specs.Refusals.{out_of_range}
 use Rattle.commands.proofs.refusal.out_of_range.Goals as goal
 

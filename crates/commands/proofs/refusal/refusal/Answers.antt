@@ -1,7 +1,6 @@
 -- `commands::refusal::refusal` meets its contract. Assumes nothing.
 use mathlib.Core.Path.{◌≡◌, ◌∙◌, sym}
 use mathlib.Core.Bool.{false}
-use borrow.Author.Rules.{rules}
 use borrow.Author.Tests.{le-ltb, lt-ltb}
 use Rattle.commands.specs.Refusals.{unknown, no_row, bad_source, first, early}
 use Rattle.commands.proofs.ConditionLaws.{some_remembered}

@@ -1,5 +1,4 @@
 -- `commands::refusal::row_out` meets its contract. Assumes nothing.
-use borrow.Author.Rules.{rules}
 use Rattle.commands.proofs.refusal.row_out.Goals as goal
 
 pub returns-then-used : goal.returns-then-used

@@ -1,5 +1,4 @@
 -- `commands::refusal::uses_a` meets its contract. Assumes nothing.
-use borrow.Author.Rules.{rules}
 use Rattle.commands.specs.Fields.{is_used}
 use Rattle.commands.specs.Commands.{Entry, table, entry_at}
 use Rattle.commands.specs.CommandSets.{in_set}

@@ -1,5 +1,4 @@
 -- `commands::refusal::uses_u` meets its contract. Assumes nothing.
-use borrow.Author.Rules.{rules}
 use Rattle.commands.specs.Commands.{Entry, table, entry_at}
 use Rattle.commands.specs.CommandSets.{in_set}
 use Rattle.commands.proofs.CommandSetLaws.{column}

@@ -1,5 +1,4 @@
 -- `commands::refusal::value_bad` meets its contract. Assumes nothing.
-use borrow.Author.Rules.{rules}
 use Rattle.commands.proofs.refusal.value_bad.Goals as goal
 
 pub returns-then-is_finite : goal.returns-then-is_finite

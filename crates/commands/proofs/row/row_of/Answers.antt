@@ -1,5 +1,4 @@
 -- `commands::row::row_of` meets its contract. Assumes nothing.
-use borrow.Author.Rules.{rules}
 use Rattle.commands.proofs.row.row_of.Goals as goal
 
 pub returns : goal.returns

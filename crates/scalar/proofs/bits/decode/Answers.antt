@@ -1,6 +1,5 @@
 -- `scalar::bits::decode` meets its contract. Assumes nothing.
 use mathlib.Core.Path.{sym, subst}
-use borrow.Author.Rules.{rules}
 use lib.Dec.{T, leb}
 use lib.Ieee.{binary32, fits, to_bits}
 use lib.Ieee.Compare.{differs_from_itself}

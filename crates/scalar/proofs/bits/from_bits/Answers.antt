@@ -1,7 +1,6 @@
 -- `scalar::bits::from_bits` meets its contract. Assumes nothing.
 use Rattle.scalar.proofs.floats.SignLaws.{zero_by_zero, pattern_nan, pattern_plain}
 use mathlib.Core.Path.{sym, ◌∙◌}
-use borrow.Author.Rules.{rules}
 use Rattle.scalar.proofs.bits.from_bits.Goals as goal
 
 pub returns-then-m-gt2139095040 : goal.returns-then-m-gt2139095040

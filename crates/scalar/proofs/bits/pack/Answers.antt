@@ -6,7 +6,6 @@ use native.Mathlib.Nat.{add_comm, add_assoc, zero-add}
 use Prim.Native.Nat.{ℕ, ◌+◌, ◌*◌}
 use mathlib.Core.Bool.{Bool, true, false}
 use mathlib.Core.Path.{sym, ap, ◌∙◌}
-use borrow.Author.Rules.{rules}
 use Rattle.scalar.proofs.bits.pack.Goals as goal
 
 pub float_from_bits-result : goal.float_from_bits-result

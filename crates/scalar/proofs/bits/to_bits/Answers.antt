@@ -4,7 +4,6 @@ use lib.Dec.{T}
 use lib.Ieee.{binary32, to_bits}
 use lib.Ieee.Compare.{differs_from_itself}
 use Rattle.scalar.proofs.floats.BitsLaws.{equal_no_nan}
-use borrow.Author.Rules.{rules}
 use Rattle.scalar.proofs.bits.to_bits.Goals as goal
 
 pub returns-then-x : goal.returns-then-x

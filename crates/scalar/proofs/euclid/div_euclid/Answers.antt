@@ -5,7 +5,6 @@ use Rattle.scalar.specs.Euclid.{zer}
 use lib.Ieee.{Float, binary32, sub, add, lt}
 use mathlib.Core.Bool.{true, false}
 use mathlib.Core.Path.{refl, sym, ap, ◌∙◌}
-use borrow.Author.Rules.{rules}
 use Rattle.scalar.proofs.euclid.div_euclid.Goals as goal
 
 pub returns-then-b : goal.returns-then-b

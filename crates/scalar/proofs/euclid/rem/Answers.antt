@@ -4,7 +4,6 @@ use Prim.Native.Nat.{ℕ, ◌*◌, ◌^◌, ◌<◌}
 use native.Mathlib.Nat.{lt_trans, mod-lt}
 use native.Mathlib.Omega.{arith}
 use lib.Ieee.{binary32, round}
-use borrow.Author.Rules.{rules}
 use Rattle.scalar.specs.Parts.{Decoded}
 use Rattle.scalar.specs.declared.bits.Parts.{Parts}
 use Rattle.scalar.proofs.floats.PartsLaws.{other}

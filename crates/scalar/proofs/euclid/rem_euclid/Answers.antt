@@ -3,7 +3,6 @@ use Rattle.scalar.proofs.ComposedLaws.{rem_is}
 use lib.Ieee.{Float, binary32, add}
 use mathlib.Core.Bool.{true, false}
 use mathlib.Core.Path.{sym, ap, ◌∙◌}
-use borrow.Author.Rules.{rules}
 use Rattle.scalar.proofs.euclid.rem_euclid.Goals as goal
 
 pub returns-then-r : goal.returns-then-r

@@ -1,7 +1,6 @@
 -- `scalar::fused::aligned` meets its contract. Assumes nothing.
 use mathlib.Core.Path.{sym, ap₂, ◌∙◌, subst₂}
 use Prim.Native.Nat.{ℕ, ◌*◌, ◌^◌, ◌<◌}
-use borrow.Author.Rules.{rules}
 use lib.Ieee.{binary32, sum}
 use Rattle.scalar.proofs.products.AlignLaws.{aligned_sum, aligned_fit}
 use Rattle.scalar.proofs.fused.aligned.Goals as goal

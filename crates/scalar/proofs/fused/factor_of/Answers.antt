@@ -1,11 +1,8 @@
 -- `scalar::fused::factor_of` meets its contract. Assumes nothing.
 use mathlib.Core.Path.{subst}
-use native.Mathlib.Omega.{arith}
-use borrow.Author.Rules.{rules}
 use Rattle.scalar.specs.Parts.{Decoded}
 use Rattle.scalar.specs.declared.bits.Parts.{Parts}
-use Rattle.scalar.proofs.floats.PartsLaws.{other}
-use Rattle.scalar.proofs.products.FusedLaws.{plain_other, plain_zero, factor_full, factor_short, zeros_left}
+use Rattle.scalar.proofs.products.FusedLaws.{plain_zero, factor_full, factor_short, zeros_left}
 use Rattle.scalar.proofs.fused.factor_of.Goals as goal
 
 pub returns-then-q-eq0 : goal.returns-then-q-eq0

@@ -1,13 +1,11 @@
 -- `scalar::fused::mul_add` meets its contract: the laws of FusedLaws at the parts of its arguments. Assumes nothing.
 use mathlib.Core.Path.{◌∙◌, subst}
-use native.Mathlib.Omega.{arith}
-use borrow.Author.Rules.{rules}
 use Rattle.scalar.specs.Parts.{Decoded}
 use Rattle.scalar.specs.FusedParts.{Factored}
 use Rattle.scalar.specs.declared.bits.Parts.{Parts}
 use Rattle.scalar.specs.declared.fused.Factor.{Factor}
 use Rattle.scalar.proofs.floats.PartsLaws.{other}
-use Rattle.scalar.proofs.products.FusedLaws.{plain_first, plain_second, other_term, product_fits, terms, number_sum}
+use Rattle.scalar.proofs.products.FusedLaws.{plain_first, plain_second, other_term, number_sum}
 use Rattle.scalar.proofs.fused.mul_add.Goals as goal
 
 pub returns-in_default : goal.returns-in_default

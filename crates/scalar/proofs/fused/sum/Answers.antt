@@ -3,7 +3,6 @@ use mathlib.Core.Path.{◌≡◌, refl, sym, ◌∙◌}
 use mathlib.Core.Bool.{false}
 use mathlib.Core.Logic.{inl, inr}
 use Prim.Native.Nat.{◌^◌}
-use borrow.Author.Rules.{rules}
 use lib.Pow.{pow_pos}
 use lib.Ieee.{binary32, round, of_bits}
 use Rattle.laws.proofs.operations.SumSigns.{sum_level, sum_sized}

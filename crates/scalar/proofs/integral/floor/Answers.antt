@@ -1,6 +1,5 @@
 -- `scalar::integral::floor` meets its contract. Assumes nothing.
 use mathlib.Core.Path.{sym, ap, ◌∙◌, subst}
-use borrow.Author.Rules.{rules}
 use lib.Dec.{T}
 use lib.Ieee.{Float, binary32, fits, lt}
 use Rattle.scalar.specs.Integral.{toward_negative}

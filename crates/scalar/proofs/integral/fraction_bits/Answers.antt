@@ -1,7 +1,6 @@
 -- `scalar::integral::fraction_bits` meets its contract. Assumes nothing.
 use mathlib.Core.Path.{refl}
 use native.Mathlib.Omega.{arith}
-use borrow.Author.Rules.{rules}
 use Rattle.scalar.proofs.whole_numbers.IntegralBits.{fraction_bits_small, fraction_bits_other}
 use Rattle.scalar.proofs.integral.fraction_bits.Goals as goal
 

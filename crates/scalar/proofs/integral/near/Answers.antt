@@ -3,7 +3,6 @@ use mathlib.Core.Path.{◌≡◌, sym, ap, ◌∙◌, subst}
 use mathlib.Core.Bool.{true}
 use lib.Dec.{T}
 use lib.Ieee.{Float, binary32, fits, lt}
-use borrow.Author.Rules.{rules}
 use Rattle.scalar.proofs.whole_numbers.IntegralSums.{whole, nearest_number, round_sum}
 use Rattle.scalar.proofs.integral.near.Goals as goal
 

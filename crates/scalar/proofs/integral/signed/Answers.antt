@@ -1,7 +1,6 @@
 -- `scalar::integral::signed` meets its contract. Assumes nothing.
 use mathlib.Core.Path.{◌≡◌, sym, ap, ◌∙◌, subst}
 use mathlib.Core.Bool.{Bool, not}
-use borrow.Author.Rules.{rules}
 use lib.Dec.{T}
 use lib.Ieee.{binary32, is_nan, of_bits}
 use lib.Ieee.Bits.{nan_bits_is}

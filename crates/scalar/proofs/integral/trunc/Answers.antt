@@ -1,15 +1,14 @@
 -- `scalar::integral::trunc` meets its contract. Assumes nothing.
 use mathlib.Core.Path.{◌≡◌, sym, ap, ◌∙◌, subst}
 use mathlib.Core.Bool.{Bool, not}
-use Prim.Native.Nat.{◌*◌, ◌/◌, ◌%◌, ◌^◌, ◌<◌}
+use Prim.Native.Nat.{◌*◌, ◌/◌, ◌%◌, ◌^◌}
 use lib.Dec.{T}
 use lib.Ieee.{binary32, fits, is_nan, of_bits, to_bits}
 use lib.Ieee.Bits.{nan_bits_is}
 use Rattle.scalar.specs.Integral.{integral, toward_zero}
 use Rattle.scalar.proofs.floats.BitsLaws.{equal_no_nan}
-use Rattle.scalar.proofs.whole_numbers.IntegralBits.{trunc_bits, integral_number, fraction_bits_most}
+use Rattle.scalar.proofs.whole_numbers.IntegralBits.{trunc_bits, integral_number}
 use Rattle.scalar.proofs.whole_numbers.IntegralSums.{nan_stays}
-use borrow.Author.Rules.{rules}
 use Rattle.scalar.proofs.integral.trunc.Goals as goal
 
 pub returns-then-x : goal.returns-then-x

@@ -1,5 +1,4 @@
 -- `scalar::powers::largest_bits` meets its contract. Assumes nothing.
-use borrow.Author.Rules.{rules}
 use Rattle.scalar.specs.SizeBits.{largest_bits}
 use Rattle.scalar.proofs.powers.largest_bits.Goals as goal
 

@@ -3,8 +3,6 @@ use mathlib.Core.Path.{ap, ◌∙◌}
 use Prim.Native.Nat.{ℕ, ◌-◌}
 use native.Mathlib.Omega.{arith}
 use lib.Count.{count_leading_zeros}
-use borrow.Author.Rules.{rules}
-use Rattle.laws.proofs.numbers.LeadingLaws.{leading_lt}
 use Rattle.scalar.proofs.scaling.SizeBitsLaws.{log2_normal, log2_subnormal}
 use Rattle.scalar.proofs.powers.log2_of_bits.Goals as goal
 

@@ -3,9 +3,7 @@ use mathlib.Core.Path.{refl, ◌∙◌}
 use mathlib.Core.Bool.{false}
 use Prim.Native.Nat.{◌^◌, ◌≤◌}
 use native.Mathlib.Omega.{arith}
-use borrow.Author.Tests.{ltb-false}
 use lib.Ieee.{binary32, of_bits}
-use borrow.Author.Rules.{rules}
 use Rattle.laws.proofs.values.ValueLaws.{Value}
 use Rattle.scalar.proofs.scaling.PowerLaws.{power_of_one, power_normal, subnormal_packs, power_subnormal}
 use Rattle.scalar.proofs.powers.power_of_two.Goals as goal

@@ -1,7 +1,5 @@
 -- `scalar::powers::times_power` meets its contract: the significand's digits stand k + 426 - j places above 2 ^ -426. Assumes nothing.
 use mathlib.Core.Path.{◌∙◌, subst}
-use native.Mathlib.Omega.{arith}
-use borrow.Author.Rules.{rules}
 use Rattle.scalar.specs.Parts.{Decoded}
 use Rattle.scalar.specs.declared.bits.Parts.{Parts}
 use Rattle.scalar.proofs.floats.PartsLaws.{other}

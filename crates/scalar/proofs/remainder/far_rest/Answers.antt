@@ -5,8 +5,7 @@ use mathlib.Core.Path.{refl}
 use Prim.Native.Nat.{◌*◌, ◌%◌, ◌^◌}
 use native.Mathlib.Omega.{arith}
 use native.Mathlib.Nat.{mod-lt}
-use borrow.Author.Rules.{rules}
-use Rattle.scalar.proofs.RestLaws.{Resting, rest_more, rest_last}
+use Rattle.scalar.proofs.RestLaws.{rest_more, rest_last}
 use Rattle.scalar.proofs.remainder.far_rest.Goals as goal
 
 pub loop-left-init : goal.loop-left-init

@@ -1,10 +1,5 @@
 -- `scalar::remainder::far_rest` meets its contract. Assumes nothing.
-use mathlib.Core.Path.{refl}
-use Prim.Native.Nat.{◌*◌, ◌%◌, ◌^◌}
-use native.Mathlib.Omega.{arith}
-use native.Mathlib.Nat.{mod-lt}
-use borrow.Author.Rules.{rules}
-use Rattle.scalar.proofs.RestLaws.{Resting, rest_more, rest_last}
+use Rattle.scalar.proofs.RestLaws.{Resting}
 use Rattle.scalar.proofs.remainder.far_rest.Given as goal
 
 abbrev pub invariant-loop-left : goal.invariant-loop-left

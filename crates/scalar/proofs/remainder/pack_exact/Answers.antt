@@ -4,7 +4,6 @@ use Prim.Native.Nat.{◌<◌}
 use native.Mathlib.Omega.{arith}
 use Rattle.scalar.proofs.roots.RootPartsLaws.{zeros_in}
 use Rattle.scalar.proofs.RestLaws.{repacked, repacks_none, repacks_full, repacks_low}
-use borrow.Author.Rules.{rules}
 use Rattle.scalar.proofs.remainder.pack_exact.Goals as goal
 
 pub returns-then-r-eq0 : goal.returns-then-r-eq0

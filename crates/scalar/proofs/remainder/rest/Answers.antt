@@ -1,5 +1,4 @@
 -- `scalar::remainder::rest` meets its contract. Assumes nothing.
-use borrow.Author.Rules.{rules}
 use Rattle.scalar.proofs.RestLaws.{rest_near}
 use Rattle.scalar.proofs.remainder.rest.Goals as goal
 

@@ -1,6 +1,5 @@
 -- `scalar::root::grown` meets its contract. Assumes nothing.
 use native.Mathlib.Omega.{arith}
-use borrow.Author.Rules.{rules}
 use Rattle.scalar.proofs.roots.DigitLaws.{grows, stays, square_fits}
 use Rattle.scalar.proofs.root.grown.Goals as goal
 

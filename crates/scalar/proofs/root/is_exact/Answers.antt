@@ -1,18 +1,17 @@
 -- `scalar::root::is_exact` meets its contract. Assumes nothing.
 use mathlib.Core.Path.{◌≡◌, sym, ap, ◌∙◌, subst}
 use mathlib.Core.Bool.{not}
-use Prim.Native.Nat.{ℕ, ◌*◌, ◌^◌, ◌%◌, ◌<◌}
+use Prim.Native.Nat.{◌*◌, ◌^◌, ◌%◌, ◌<◌}
 use native.Mathlib.Omega.{arith}
 use lib.Dec.{T, eqb}
 use lib.Ieee.{Float, is_nan}
-use borrow.Author.Rules.{rules}
 use Rattle.scalar.specs.Parts.{Decoded}
-use Rattle.scalar.specs.Root.{root, root_units}
+use Rattle.scalar.specs.Root.{root_units}
 use Rattle.scalar.specs.RootParts.{Positive}
 use Rattle.scalar.specs.declared.bits.Parts.{Parts}
 use Rattle.scalar.proofs.floats.PartsLaws.{other}
 use Rattle.scalar.proofs.roots.RootCases.{root_positive}
-use Rattle.scalar.proofs.roots.ExactRootLaws.{significand_bits, significand_square, significand_exact, root_no_nan, exact_other, exact_zero, exact_negative, exact_positive}
+use Rattle.scalar.proofs.roots.ExactRootLaws.{significand_bits, significand_exact, root_no_nan, exact_other, exact_zero, exact_negative, exact_positive}
 use Rattle.scalar.proofs.root.is_exact.Goals as goal
 
 pub returns-in_default : goal.returns-in_default

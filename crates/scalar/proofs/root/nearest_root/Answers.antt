@@ -1,7 +1,6 @@
 -- `scalar::root::nearest_root` meets its contract. Assumes nothing.
 use Prim.Native.Nat.{◌^◌, ◌<◌}
 use native.Mathlib.Omega.{arith}
-use borrow.Author.Rules.{rules}
 use Rattle.scalar.proofs.roots.RootPartsLaws.{near_up, near_stays, root_small}
 use Rattle.scalar.proofs.root.nearest_root.Goals as goal
 

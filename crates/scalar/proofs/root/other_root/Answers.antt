@@ -3,7 +3,6 @@ use mathlib.Core.Path.{◌≡◌, sym, ◌∙◌, subst}
 use Prim.Native.Nat.{◌<◌}
 use native.Mathlib.Omega.{arith}
 use lib.Ieee.{inf}
-use borrow.Author.Rules.{rules}
 use Rattle.scalar.specs.Parts.{Decoded}
 use Rattle.scalar.specs.RootParts.{Positive}
 use Rattle.scalar.specs.declared.bits.Parts.{Parts}

@@ -1,6 +1,5 @@
 -- `scalar::root::root_of` meets its contract. Assumes nothing.
 use mathlib.Core.Path.{sym, ◌∙◌}
-use borrow.Author.Rules.{rules}
 use Rattle.scalar.proofs.roots.RootPartsLaws.{root_all}
 use Rattle.scalar.proofs.root.root_of.Goals as goal
 

@@ -1,7 +1,5 @@
 -- `scalar::root::shift_of` meets its contract. Assumes nothing.
-use native.Mathlib.Omega.{arith}
-use borrow.Author.Rules.{rules}
-use Rattle.scalar.proofs.roots.RootPartsLaws.{zeros_in, shift_is}
+use Rattle.scalar.proofs.roots.RootPartsLaws.{shift_is}
 use Rattle.scalar.proofs.root.shift_of.Goals as goal
 
 pub returns : goal.returns

@@ -6,7 +6,6 @@ use native.Mathlib.Omega.{arith}
 use lib.Dec.{T}
 use lib.Ieee.{binary32, to_bits}
 use lib.Ieee.Compare.{differs_from_itself}
-use borrow.Author.Rules.{rules}
 use Rattle.scalar.proofs.floats.BitsLaws.{equal_no_nan, Normal, normal}
 use Rattle.scalar.proofs.roots.RootCases.{root_nan, root_positive}
 use Rattle.scalar.proofs.roots.RootPartsLaws.{shift_normal}

@@ -1,5 +1,4 @@
 -- `scalar::root::sqrt_and_exactness` meets its contract. Assumes nothing.
-use borrow.Author.Rules.{rules}
 use Rattle.scalar.specs.ExactRoot.{root_and_exactness}
 use Rattle.scalar.proofs.root.sqrt_and_exactness.Goals as goal
 

@@ -1,10 +1,7 @@
 -- `scalar::root::whole_root` meets its contract. Invariant: s is the whole root of n / 2 ^ k, and 4 divides k; measure: k, the bits of n that are left. Assumes nothing.
-use mathlib.Core.Path.{◌≡◌}
-use Prim.Native.Nat.{◌/◌, ◌%◌, ◌^◌, ◌≤◌}
 use native.Mathlib.Nat.{lt_of_le_of_lt, div-le_self}
 use native.Mathlib.Omega.{arith}
 use borrow.Author.Rules.{rules}
-use Rattle.laws.specs.WholeRoot.{WholeRoot}
 use Rattle.scalar.proofs.roots.DigitLaws.{no_bits, four_bits, all_bits}
 use Rattle.scalar.proofs.root.whole_root.Goals as goal
 

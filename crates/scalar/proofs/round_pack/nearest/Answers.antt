@@ -1,9 +1,5 @@
 -- `scalar::round_pack::nearest` meets its contract: the sum's carry rounds. Assumes nothing.
-use mathlib.Core.Path.{◌≡◌}
-use Prim.Native.Nat.{◌+◌, ◌-◌, ◌*◌, ◌/◌, ◌%◌, ◌^◌}
 use native.Mathlib.Omega.{arith}
-use borrow.Author.Rules.{rules}
-use lib.Ieee.Nearest.{closest}
 use Rattle.scalar.proofs.products.WordLaws.{half_word, half_in, carried, quotient_fits}
 use Rattle.scalar.proofs.round_pack.nearest.Goals as goal
 

@@ -1,8 +1,6 @@
 -- `scalar::round_pack::normalized` meets its contract. Assumes nothing.
 use Prim.Native.Nat.{◌<◌}
 use native.Mathlib.Omega.{arith}
-use borrow.Author.Rules.{rules}
-use Rattle.laws.proofs.numbers.LeadingLaws.{leading_lt}
 use Rattle.scalar.proofs.products.WordLaws.{normalized_full, normalized_shifted}
 use Rattle.scalar.proofs.round_pack.normalized.Goals as goal
 

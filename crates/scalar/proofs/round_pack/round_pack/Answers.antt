@@ -2,7 +2,6 @@
 use mathlib.Core.Path.{◌∙◌}
 use Prim.Native.Nat.{◌+◌, ◌-◌}
 use native.Mathlib.Omega.{arith}
-use borrow.Author.Rules.{rules}
 use lib.Count.{count_leading_zeros}
 use Rattle.scalar.proofs.products.RoundPackLaws.{Ulp, ulp_full, ulp_low, ulp_round, ulp_packs, ulp_inf, ulp_none, round_zero}
 use Rattle.scalar.proofs.round_pack.round_pack.Goals as goal

@@ -3,7 +3,7 @@ use mathlib.Core.Path.{◌≡◌, sym, ◌∙◌}
 use mathlib.Core.Logic.{inl, inr}
 use Prim.Native.Nat.{◌^◌, ◌<◌}
 use native.Mathlib.Omega.{arith}
-use lib.Pow.{pow_pos, shr_le}
+use lib.Pow.{pow_pos}
 use Rattle.laws.specs.Sticky.{sticky}
 use Rattle.laws.proofs.rounding.StickyLaws.{sticky_whole, sticky_lossy}
 use Rattle.scalar.proofs.products.WordLaws.{shift_within, truncated_word}

@@ -1,7 +1,6 @@
 -- `scalar::sign::abs` meets its contract. Assumes nothing.
 use Rattle.scalar.proofs.floats.SignLaws.{abs_neg, abs_pos}
 use mathlib.Core.Path.{sym, ◌∙◌}
-use borrow.Author.Rules.{rules}
 use Rattle.scalar.proofs.sign.abs.Goals as goal
 
 pub returns-then-is_sign_negative : goal.returns-then-is_sign_negative

@@ -3,7 +3,6 @@ use mathlib.Core.Bool.{true, false}
 use Rattle.scalar.proofs.floats.SignLaws.{copy}
 use lib.Ieee.{neg}
 use mathlib.Core.Path.{sym, ap, ◌∙◌}
-use borrow.Author.Rules.{rules}
 use Rattle.scalar.proofs.sign.copysign.Goals as goal
 
 pub returns-then-is_sign_negative : goal.returns-then-is_sign_negative

@@ -1,7 +1,6 @@
 -- `scalar::sign::copysign_bits` meets its contract. Assumes nothing.
 use native.Mathlib.Nat.{zero-add}
 use borrow.Author.Tests.{le-leb, lt-leb}
-use borrow.Author.Rules.{rules}
 use Rattle.scalar.proofs.sign.copysign_bits.Goals as goal
 
 pub returns-then-b-ge2147483648 : goal.returns-then-b-ge2147483648

@@ -1,10 +1,8 @@
 -- `scalar::sign::is_finite` meets its contract. Assumes nothing.
 use mathlib.Core.Path.{subst}
-use mathlib.Core.Logic.{inl, inr}
 use Rattle.scalar.specs.Parts.{Decoded}
 use Rattle.scalar.specs.declared.bits.Parts.{Parts}
-use Rattle.scalar.proofs.floats.SignLaws.{other_infinite, parts_finite}
-use borrow.Author.Rules.{rules}
+use Rattle.scalar.proofs.floats.SignLaws.{parts_finite}
 use Rattle.scalar.proofs.sign.is_finite.Goals as goal
 
 pub returns-in-Fin : goal.returns-in-Fin

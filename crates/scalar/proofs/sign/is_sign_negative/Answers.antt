@@ -3,7 +3,6 @@ use Rattle.scalar.proofs.floats.SignLaws.{sign_nan, sign_inf, sign_odd}
 use Rattle.scalar.specs.declared.bits.Parts.{Parts}
 use Rattle.scalar.specs.Parts.{Decoded}
 use mathlib.Core.Path.{subst}
-use borrow.Author.Rules.{rules}
 use Rattle.scalar.proofs.sign.is_sign_negative.Goals as goal
 
 pub returns-in-Nan : goal.returns-in-Nan

@@ -2,7 +2,6 @@
 use Rattle.scalar.proofs.floats.SignLaws.{sign_of_nan, sign_of_other}
 use lib.Ieee.{of_bits}
 use mathlib.Core.Path.{◌∙◌}
-use borrow.Author.Rules.{rules}
 use Rattle.scalar.proofs.sign.signum.Goals as goal
 
 pub returns-then-x : goal.returns-then-x

@@ -1,6 +1,5 @@
 -- `sheet::answer::refusal_of` meets its contract. Assumes nothing.
 use Rattle.commands.specs.Answers.{answer_of}
-use borrow.Author.Rules.{rules}
 use Rattle.sheet.proofs.answer.refusal_of.Goals as goal
 
 pub returns-in-Refused : goal.returns-in-Refused

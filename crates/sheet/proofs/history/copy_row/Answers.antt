@@ -1,7 +1,6 @@
 -- `sheet::history::copy_row` meets its contract. Assumes nothing.
 use native.Mathlib.Omega.{arith}
 use Rattle.sheet.proofs.ring.CopyLaws.{five_copied}
-use borrow.Author.Rules.{rules}
 use Rattle.sheet.proofs.history.copy_row.Goals as goal
 
 pub returns : goal.returns

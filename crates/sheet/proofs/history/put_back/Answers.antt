@@ -1,7 +1,6 @@
 -- `sheet::history::put_back` meets its contract. Assumes nothing.
 use native.Mathlib.Omega.{arith}
 use Rattle.sheet.proofs.ring.CopyLaws.{one_copied, two_copied}
-use borrow.Author.Rules.{rules}
 use Rattle.sheet.proofs.history.put_back.Goals as goal
 
 pub returns-then-state-e-eq2 : goal.returns-then-state-e-eq2

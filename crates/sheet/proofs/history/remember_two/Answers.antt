@@ -1,7 +1,6 @@
 -- `sheet::history::remember_two` meets its contract. Assumes nothing.
 use native.Mathlib.Omega.{arith}
 use Rattle.sheet.proofs.ring.CopyLaws.{two_written}
-use borrow.Author.Rules.{rules}
 use Rattle.sheet.proofs.history.remember_two.Goals as goal
 
 pub returns : goal.returns

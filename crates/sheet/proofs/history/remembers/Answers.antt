@@ -1,6 +1,5 @@
 -- `sheet::history::remembers` meets its contract. Assumes nothing.
 use Rattle.sheet.proofs.words.WordLaws.{remembers_told}
-use borrow.Author.Rules.{rules}
 use Rattle.sheet.proofs.history.remembers.Goals as goal
 
 pub returns : goal.returns

@@ -1,9 +1,7 @@
 -- `sheet::history::restore` meets its contract. Assumes nothing.
 use native.Mathlib.Omega.{arith}
 use Rattle.commands.specs.Answers.{answer_of}
-use Rattle.sheet.proofs.ring.PutBackLaws.{target_below}
 use Rattle.sheet.proofs.ring.TakeBackLaws.{restore_done}
-use borrow.Author.Rules.{rules}
 use Rattle.sheet.proofs.history.restore.Goals as goal
 
 pub returns : goal.returns

@@ -2,7 +2,6 @@
 use lib.ListN.{length-set}
 use native.Mathlib.Omega.{arith}
 use native.Mathlib.Numerals.{towards_suc}
-use borrow.Author.Rules.{rules}
 use Rattle.sheet.proofs.rows.put_five.Goals as goal
 
 pub bounds-state-at-2 : goal.bounds-state-at-2

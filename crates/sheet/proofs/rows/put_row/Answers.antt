@@ -1,6 +1,5 @@
 -- `sheet::rows::put_row` meets its contract. Assumes nothing.
 use Rattle.sheet.specs.Rows.{row_words, put_row}
-use borrow.Author.Rules.{rules}
 use Rattle.sheet.proofs.rows.put_row.Goals as goal
 
 pub returns : goal.returns

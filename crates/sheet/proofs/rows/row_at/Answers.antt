@@ -1,6 +1,5 @@
 -- `sheet::rows::row_at` meets its contract. Assumes nothing.
 use mathlib.Core.Path.{◌∙◌}
-use borrow.Author.Rules.{rules}
 use Rattle.sheet.proofs.rows.row_at.Goals as goal
 
 pub returns : goal.returns

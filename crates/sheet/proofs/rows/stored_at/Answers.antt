@@ -1,7 +1,6 @@
 -- `sheet::rows::stored_at` meets its contract. Assumes nothing.
 use native.Mathlib.Omega.{arith}
 use Rattle.sheet.proofs.words.WordLaws.{row_stored}
-use borrow.Author.Rules.{rules}
 use Rattle.sheet.proofs.rows.stored_at.Goals as goal
 
 pub returns : goal.returns

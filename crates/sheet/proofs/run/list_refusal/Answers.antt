@@ -1,7 +1,6 @@
 -- `sheet::run::list_refusal` meets its contract. Assumes nothing.
 use borrow.Author.Tests.{eq-eqb, le-ltb, lt-ltb, ne_eqb}
 use Rattle.sheet.specs.Run.{refusal_of_lengths}
-use borrow.Author.Rules.{rules}
 use Rattle.sheet.proofs.run.list_refusal.Goals as goal
 
 pub returns-then-words-lt-STATE_WORDS : goal.returns-then-words-lt-STATE_WORDS

@@ -1,10 +1,7 @@
 -- `sheet::run::run` meets its contract. Invariant: the words and the places lent are those after the first i commands (`Held`); measure: the n - i commands that
 -- are left. Assumes nothing.
-use Prim.Native.Nat.{◌-◌}
 use mathlib.Core.Path.{refl, sym, ◌∙◌}
-use native.Mathlib.Omega.{arith}
-use Rattle.sheet.proofs.RunLaws.{Held, held_none, held_more, length_words, length_answers, lengths_fit, run_done, run_refused}
-use borrow.Author.Rules.{rules}
+use Rattle.sheet.proofs.RunLaws.{held_none, held_more, length_words, length_answers, lengths_fit, run_done, run_refused}
 use Rattle.sheet.proofs.run.run.Goals as goal
 
 pub loop-i-init : goal.loop-i-init

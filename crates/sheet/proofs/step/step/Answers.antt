@@ -7,7 +7,6 @@ use Rattle.commands.specs.Answers.{answer_of}
 use Rattle.sheet.specs.Words.{state_words}
 use Rattle.sheet.proofs.LentLaws.{lent_short}
 use Rattle.sheet.proofs.LentStepLaws.{Found, found, put_range, two_range, tells, puts, puts_two, restores, remembered_long, put_long}
-use borrow.Author.Rules.{rules}
 use Rattle.sheet.proofs.step.step.Goals as goal
 
 -- ---- the needs

@@ -1,7 +1,6 @@
 -- `sheet::step::step_at` meets its contract: its two tests stand for `length out < at + 6`. Assumes nothing.
 use native.Mathlib.Omega.{arith}
 use Rattle.sheet.proofs.LentStepLaws.{at_short, done_at}
-use borrow.Author.Rules.{rules}
 use Rattle.sheet.proofs.step.step_at.Goals as goal
 
 pub returns-then-out-lt6 : goal.returns-then-out-lt6

@@ -2,7 +2,6 @@
 use mathlib.Core.Path.{sym, ◌∙◌}
 use Rattle.commands.specs.Answers.{answer_of}
 use Rattle.sheet.proofs.LentStepLaws.{undone_some, undone_none}
-use borrow.Author.Rules.{rules}
 use Rattle.sheet.proofs.step.undo.Goals as goal
 
 pub returns-then-remembers : goal.returns-then-remembers

@@ -13,13 +13,13 @@ returns-then-self-eq0 c =
 pub returns-then-out-lt-ANSWER_LENGTH : goal.returns-then-out-lt-ANSWER_LENGTH
 returns-then-out-lt-ANSWER_LENGTH c =
     let some : length (take c.args.self.len c.args.self.line) ≡ 0 → ⊥ =
-        λ e. let l : length c.args.self.line ≡ 46 = search rules in omega (arith, e, c.if-self-eq0.false, l, length-take c.args.self.len c.args.self.line)
+    λ e. let l : length c.args.self.line ≡ 46 = search rules in omega (arith, e, c.if-self-eq0.false, l, length-take c.args.self.len c.args.self.line)
     in
     end_short _ _ some c.if-out-lt-ANSWER_LENGTH.true
 
 pub returns : goal.returns
 returns c =
     let some : length (take c.args.self.len c.args.self.line) ≡ 0 → ⊥ =
-        λ e. let l : length c.args.self.line ≡ 46 = search rules in omega (arith, e, c.if-self-eq0.false, l, length-take c.args.self.len c.args.self.line)
+    λ e. let l : length c.args.self.line ≡ 46 = search rules in omega (arith, e, c.if-self-eq0.false, l, length-take c.args.self.len c.args.self.line)
     in
     end_answered _ _ some _ c.if-out-lt-ANSWER_LENGTH.false c.put_line.ensures

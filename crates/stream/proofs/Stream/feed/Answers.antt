@@ -2,16 +2,14 @@
 -- What holds at the loop's test (`Turning`): the first i bytes are fed, `produced` is the length of their answers, `out` is these answers and then what was there, and
 -- of the bytes behind them so many are consumed as the room that is left allows. It ends, since the bytes that are left grow fewer.
 use borrow.Author.Rules.{rules}
-use Prim.Native.Nat.{◌-◌}
 use native.Mathlib.Omega.{arith}
 use mathlib.Core.Path.{◌≡◌, refl, sym}
 use lib.ListN.{length, take}
 use lib.Seq.{length-take-le}
-use Rattle.stream.specs.Stream.{held}
 use Rattle.stream.specs.Turns.{IsRun}
 use Rattle.stream.proofs.turns.ConsumedLaws.{ends_count}
 use Rattle.stream.proofs.turns.FeedLaws.{take_min, length_feeding}
-use Rattle.stream.proofs.turns.TurnLaws.{Turning, step_answered, turning_none, turned_full, turned_all, turn_run, turn_ill, turn_push, turn_full}
+use Rattle.stream.proofs.turns.TurnLaws.{step_answered, turning_none, turned_full, turned_all, turn_run, turn_ill, turn_push, turn_full}
 use Rattle.stream.proofs.Stream.feed.Goals as goal
 
 pub loop-i-init : goal.loop-i-init

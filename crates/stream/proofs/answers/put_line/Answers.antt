@@ -1,7 +1,6 @@
 -- `stream::answers::put_line` meets its contract. Assumes nothing.
 use Rattle.stream.specs.Turns.{answer_from}
 use Rattle.stream.proofs.turns.AnswerLaws.{answered_part}
-use borrow.Author.Rules.{rules}
 use Rattle.stream.proofs.answers.put_line.Goals as goal
 
 pub returns : goal.returns

@@ -3,7 +3,6 @@ use Prim.Native.Nat.{◌+◌, ◌-◌}
 use mathlib.Core.Path.{◌≡◌, sym, ◌∙◌}
 use native.Mathlib.Omega.{arith}
 use Rattle.stream.proofs.turns.HearLaws.{read_all, hear_line}
-use borrow.Author.Rules.{rules}
 use Rattle.stream.proofs.hear.hear.Goals as goal
 
 pub returns-then-fields : goal.returns-then-fields

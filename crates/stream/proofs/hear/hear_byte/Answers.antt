@@ -1,7 +1,6 @@
 -- `stream::hear::hear_byte` meets its contract. Assumes nothing.
 use mathlib.Core.Path.{sym, ◌∙◌}
 use Rattle.stream.proofs.turns.HearLaws.{read_all, read_none, hear_end}
-use borrow.Author.Rules.{rules}
 use Rattle.stream.proofs.hear.hear_byte.Goals as goal
 
 pub returns-then-fields : goal.returns-then-fields

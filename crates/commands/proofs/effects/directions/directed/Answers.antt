@@ -4,7 +4,6 @@ use Rattle.vector.specs.declared.vec3.Vec3.{Vec3}
 use Rattle.commands.specs.Rows.{direction}
 use Rattle.commands.specs.Refusals.{lacks_direction, not_finite}
 use Rattle.commands.specs.Effects.{Puts, effect_by, effect_of, unless, settled}
-use borrow.Author.Rules.{rules}
 use Rattle.commands.proofs.effects.directions.directed.Goals as goal
 
 pub returns : goal.returns

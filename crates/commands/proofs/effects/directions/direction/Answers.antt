@@ -8,7 +8,6 @@ use Rattle.vector.proofs.scaling.NoDirectionLaws.{direction_is_scaled}
 use Rattle.commands.specs.Refusals.{is_nothing, lacks_direction, not_finite}
 use Rattle.commands.specs.Answers.{answer_of}
 use Rattle.commands.specs.Effects.{effect_by, effect_of, direction_in, unless, settled}
-use borrow.Author.Rules.{rules}
 use Rattle.commands.proofs.effects.directions.direction.Goals as goal
 
 pub returns-in_default : goal.returns-in_default

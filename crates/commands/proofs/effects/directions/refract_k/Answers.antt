@@ -1,6 +1,5 @@
 -- `commands::effects::directions::refract_k` meets its contract. Assumes nothing.
 use Rattle.vector.specs.Optics.{refract_k}
-use borrow.Author.Rules.{rules}
 use Rattle.commands.proofs.effects.directions.refract_k.Goals as goal
 
 pub returns : goal.returns

@@ -1,7 +1,6 @@
 -- `commands::effects::directions::refracted` meets its contract. Assumes nothing.
 use Rattle.commands.specs.Answers.{answer_of}
 use Rattle.commands.specs.Effects.{effect_by, unless}
-use borrow.Author.Rules.{rules}
 use Rattle.commands.proofs.effects.directions.refracted.Goals as goal
 
 pub returns-then-refract_k : goal.returns-then-refract_k

@@ -1,5 +1,4 @@
 -- `commands::effects::planes::height` meets its contract. Assumes nothing.
-use borrow.Author.Rules.{rules}
 use Rattle.commands.specs.Planes.{height}
 use Rattle.commands.proofs.effects.planes.height.Goals as goal
 

@@ -1,5 +1,4 @@
 -- `commands::effects::planes::meeting` meets its contract. Assumes nothing.
-use borrow.Author.Rules.{rules}
 use Rattle.commands.specs.Planes.{is_parallel, meeting}
 use Rattle.commands.specs.Answers.{answer_of}
 use Rattle.commands.specs.Effects.{unless, effect_by}

@@ -1,5 +1,4 @@
 -- `commands::effects::planes::plane` meets its contract. Assumes nothing.
-use borrow.Author.Rules.{rules}
 use Rattle.commands.specs.Planes.{offset_through}
 use Rattle.commands.specs.Refusals.{lacks_direction, not_finite}
 use Rattle.commands.specs.Answers.{answer_of}

@@ -1,7 +1,6 @@
 -- `commands::effects::projections::no_factor` meets its contract. Assumes nothing.
 use borrow.Author.Tests.{eq-eqb, ne_eqb}
 use Rattle.commands.specs.Refusals.{no_factor}
-use borrow.Author.Rules.{rules}
 use Rattle.commands.proofs.effects.projections.no_factor.Goals as goal
 
 pub returns-then-b-eq-POINT : goal.returns-then-b-eq-POINT

@@ -1,6 +1,5 @@
 -- `commands::effects::projections::project` meets its contract. Assumes nothing.
 use borrow.Author.Tests.{eq-eqb, ne_eqb}
-use borrow.Author.Rules.{rules}
 use Rattle.commands.proofs.effects.projections.project.Goals as goal
 
 pub returns-then-b-eq-DIRECTION : goal.returns-then-b-eq-DIRECTION

@@ -1,7 +1,6 @@
 -- `commands::effects::projections::projected` meets its contract. Assumes nothing.
 use Rattle.commands.specs.Answers.{answer_of}
 use Rattle.commands.specs.Effects.{effect_by, unless}
-use borrow.Author.Rules.{rules}
 use Rattle.commands.proofs.effects.projections.projected.Goals as goal
 
 pub returns-then-no_factor : goal.returns-then-no_factor

@@ -1,7 +1,6 @@
 -- `commands::effects::results::angle` meets its contract. Assumes nothing.
 use Rattle.commands.specs.Answers.{answer_of}
 use Rattle.commands.specs.Effects.{effect_by, unless}
-use borrow.Author.Rules.{rules}
 use Rattle.commands.proofs.effects.results.angle.Goals as goal
 
 pub returns-then-length_squared : goal.returns-then-length_squared

@@ -2,7 +2,6 @@
 use Rattle.commands.specs.Refusals.{lacks_direction, not_finite}
 use Rattle.commands.specs.Answers.{answer_of}
 use Rattle.commands.specs.Effects.{effect_by, effect_of, unless, settled}
-use borrow.Author.Rules.{rules}
 use Rattle.commands.proofs.effects.results.point.Goals as goal
 
 pub returns-then-is_finite : goal.returns-then-is_finite

@@ -1,5 +1,4 @@
 -- `vector::bvec3::BVec3::bitmask` meets its contract. Assumes nothing.
-use borrow.Author.Rules.{rules}
 use Rattle.vector.specs.Masks.{bitmask}
 use Rattle.vector.proofs.meanings.MaskLaws.{bits_sum}
 use Rattle.vector.proofs.bvec3.BVec3.bitmask.Goals as goal

@@ -1,5 +1,4 @@
 -- `vector::vec3::Vec3::abs` meets its contract. Assumes nothing.
-use borrow.Author.Rules.{rules}
 use Rattle.vector.specs.Signs.{abs}
 use Rattle.vector.proofs.vec3.Vec3.abs.Goals as goal
 

@@ -1,6 +1,5 @@
 -- `vector::vec3::Vec3::abs_diff_eq` meets its contract. Assumes nothing.
 use Rattle.vector.specs.Interpolation.{abs_diff_eq}
-use borrow.Author.Rules.{rules}
 use Rattle.vector.proofs.vec3.Vec3.abs_diff_eq.Goals as goal
 
 pub returns : goal.returns

@@ -1,6 +1,5 @@
 -- `vector::vec3::Vec3::angle_between` meets its contract. Assumes nothing.
 use Rattle.vector.specs.Optics.{angle_between}
-use borrow.Author.Rules.{rules}
 use Rattle.vector.proofs.vec3.Vec3.angle_between.Goals as goal
 
 pub returns : goal.returns

@@ -1,6 +1,5 @@
 -- `vector::vec3::Vec3::any_orthonormal_vector` meets its contract. Assumes nothing.
 use Rattle.vector.specs.Orthogonal.{any_orthonormal_vector}
-use borrow.Author.Rules.{rules}
 use Rattle.vector.proofs.vec3.Vec3.any_orthonormal_vector.Goals as goal
 
 pub returns : goal.returns

@@ -1,5 +1,4 @@
 -- `vector::vec3::Vec3::clamp` meets its contract. Assumes nothing.
-use borrow.Author.Rules.{rules}
 use Rattle.vector.specs.Elements.{clamp}
 use Rattle.vector.proofs.vec3.Vec3.clamp.Goals as goal
 

@@ -1,6 +1,5 @@
 -- `vector::vec3::Vec3::clamp_length_min` meets its contract. Assumes nothing.
 use Rattle.vector.specs.LengthClamps.{clamp_length_min}
-use borrow.Author.Rules.{rules}
 use Rattle.vector.proofs.vec3.Vec3.clamp_length_min.Goals as goal
 
 pub returns-then-length_sq-min : goal.returns-then-length_sq-min

@@ -1,5 +1,4 @@
 -- `vector::vec3::Vec3::cmpeq` meets its contract. Assumes nothing.
-use borrow.Author.Rules.{rules}
 use Rattle.vector.specs.Comparisons.{cmpeq}
 use Rattle.vector.proofs.vec3.Vec3.cmpeq.Goals as goal
 

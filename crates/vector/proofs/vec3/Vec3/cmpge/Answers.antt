@@ -1,5 +1,4 @@
 -- `vector::vec3::Vec3::cmpge` meets its contract. Assumes nothing.
-use borrow.Author.Rules.{rules}
 use Rattle.vector.specs.Comparisons.{cmpge}
 use Rattle.vector.proofs.vec3.Vec3.cmpge.Goals as goal
 

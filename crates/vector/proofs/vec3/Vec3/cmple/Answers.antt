@@ -1,5 +1,4 @@
 -- `vector::vec3::Vec3::cmple` meets its contract. Assumes nothing.
-use borrow.Author.Rules.{rules}
 use Rattle.vector.specs.Comparisons.{cmple}
 use Rattle.vector.proofs.vec3.Vec3.cmple.Goals as goal
 

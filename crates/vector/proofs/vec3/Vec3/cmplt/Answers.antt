@@ -1,5 +1,4 @@
 -- `vector::vec3::Vec3::cmplt` meets its contract. Assumes nothing.
-use borrow.Author.Rules.{rules}
 use Rattle.vector.specs.Comparisons.{cmplt}
 use Rattle.vector.proofs.vec3.Vec3.cmplt.Goals as goal
 

@@ -1,5 +1,4 @@
 -- `vector::vec3::Vec3::copysign` meets its contract. Assumes nothing.
-use borrow.Author.Rules.{rules}
 use Rattle.vector.specs.Signs.{copysign}
 use Rattle.vector.proofs.vec3.Vec3.copysign.Goals as goal
 

@@ -2,7 +2,6 @@
 use mathlib.Core.Path.{sym, ap, ◌∙◌, subst}
 use Prim.Native.Nat.{ℕ}
 use lib.Dec.{T}
-use borrow.Author.Rules.{rules}
 use Rattle.scalar.specs.Powers.{times_power, log2}
 use Rattle.scalar.specs.SizeBits.{size_of_bits}
 use Rattle.vector.specs.Vectors.{each}

@@ -1,5 +1,4 @@
 -- `vector::vec3::Vec3::distance` meets its contract. Assumes nothing.
-use borrow.Author.Rules.{rules}
 use Rattle.vector.specs.Products.{distance}
 use Rattle.vector.proofs.vec3.Vec3.distance.Goals as goal
 

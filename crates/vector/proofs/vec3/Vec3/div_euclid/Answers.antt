@@ -1,6 +1,5 @@
 -- `vector::vec3::Vec3::div_euclid` meets its contract. Assumes nothing.
 use Rattle.vector.specs.Rounding.{div_euclid}
-use borrow.Author.Rules.{rules}
 use Rattle.vector.proofs.vec3.Vec3.div_euclid.Goals as goal
 
 pub returns : goal.returns

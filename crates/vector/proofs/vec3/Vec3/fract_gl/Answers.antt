@@ -1,6 +1,5 @@
 -- `vector::vec3::Vec3::fract_gl` meets its contract. Assumes nothing.
 use Rattle.vector.specs.Rounding.{fract_gl}
-use borrow.Author.Rules.{rules}
 use Rattle.vector.proofs.vec3.Vec3.fract_gl.Goals as goal
 
 pub returns : goal.returns

@@ -1,5 +1,4 @@
 -- `vector::vec3::Vec3::from_homogeneous` meets its contract. Assumes nothing.
-use borrow.Author.Rules.{rules}
 use Rattle.vector.specs.Homogeneous.{from_homogeneous}
 use Rattle.vector.proofs.vec3.Vec3.from_homogeneous.Goals as goal
 

@@ -1,5 +1,4 @@
 -- `vector::vec3::Vec3::is_finite_mask` meets its contract. Assumes nothing.
-use borrow.Author.Rules.{rules}
 use Rattle.vector.specs.Comparisons.{is_finite_mask}
 use Rattle.vector.proofs.vec3.Vec3.is_finite_mask.Goals as goal
 

@@ -1,5 +1,4 @@
 -- `vector::vec3::Vec3::is_nan_mask` meets its contract. Assumes nothing.
-use borrow.Author.Rules.{rules}
 use Rattle.vector.specs.Comparisons.{is_nan_mask}
 use Rattle.vector.proofs.vec3.Vec3.is_nan_mask.Goals as goal
 

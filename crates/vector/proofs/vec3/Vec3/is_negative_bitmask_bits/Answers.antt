@@ -1,5 +1,4 @@
 -- `vector::vec3::Vec3::is_negative_bitmask_bits` meets its contract. Assumes nothing.
-use borrow.Author.Rules.{rules}
 use Rattle.vector.specs.Signs.{is_negative_bitmask_bits}
 use Rattle.vector.proofs.vec3.Vec3.is_negative_bitmask_bits.Goals as goal
 

@@ -1,6 +1,5 @@
 -- `vector::vec3::Vec3::is_normalized` meets its contract. Assumes nothing.
 use Rattle.vector.specs.Normalizing.{is_normalized}
-use borrow.Author.Rules.{rules}
 use Rattle.vector.proofs.vec3.Vec3.is_normalized.Goals as goal
 
 pub returns : goal.returns

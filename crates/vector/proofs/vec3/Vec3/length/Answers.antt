@@ -1,5 +1,4 @@
 -- `vector::vec3::Vec3::length` meets its contract. Assumes nothing.
-use borrow.Author.Rules.{rules}
 use Rattle.vector.specs.Products.{length}
 use Rattle.vector.proofs.vec3.Vec3.length.Goals as goal
 

@@ -1,5 +1,4 @@
 -- `vector::vec3::Vec3::length_recip` meets its contract. Assumes nothing.
-use borrow.Author.Rules.{rules}
 use Rattle.vector.specs.Products.{length_recip}
 use Rattle.vector.proofs.vec3.Vec3.length_recip.Goals as goal
 

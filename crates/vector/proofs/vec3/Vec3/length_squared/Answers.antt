@@ -1,5 +1,4 @@
 -- `vector::vec3::Vec3::length_squared` meets its contract. Assumes nothing.
-use borrow.Author.Rules.{rules}
 use Rattle.vector.specs.Products.{length_squared}
 use Rattle.vector.proofs.vec3.Vec3.length_squared.Goals as goal
 

@@ -1,6 +1,5 @@
 -- `vector::vec3::Vec3::lerp` meets its contract. Assumes nothing.
 use Rattle.vector.specs.Interpolation.{lerp}
-use borrow.Author.Rules.{rules}
 use Rattle.vector.proofs.vec3.Vec3.lerp.Goals as goal
 
 pub returns : goal.returns

@@ -1,5 +1,4 @@
 -- `vector::vec3::Vec3::max` meets its contract. Assumes nothing.
-use borrow.Author.Rules.{rules}
 use Rattle.vector.specs.Elements.{max}
 use Rattle.vector.proofs.vec3.Vec3.max.Goals as goal
 

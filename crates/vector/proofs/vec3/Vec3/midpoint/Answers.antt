@@ -1,6 +1,5 @@
 -- `vector::vec3::Vec3::midpoint` meets its contract. Assumes nothing.
 use Rattle.vector.specs.Interpolation.{midpoint}
-use borrow.Author.Rules.{rules}
 use Rattle.vector.proofs.vec3.Vec3.midpoint.Goals as goal
 
 pub returns : goal.returns

@@ -1,5 +1,4 @@
 -- `vector::vec3::Vec3::min_element` meets its contract. Assumes nothing.
-use borrow.Author.Rules.{rules}
 use Rattle.vector.specs.Elements.{min_element}
 use Rattle.vector.proofs.vec3.Vec3.min_element.Goals as goal
 

@@ -1,6 +1,5 @@
 -- `vector::vec3::Vec3::mul_add` meets its contract. Assumes nothing.
 use Rattle.vector.specs.Interpolation.{mul_add}
-use borrow.Author.Rules.{rules}
 use Rattle.vector.proofs.vec3.Vec3.mul_add.Goals as goal
 
 pub returns : goal.returns

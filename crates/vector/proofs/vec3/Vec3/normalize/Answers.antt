@@ -1,6 +1,5 @@
 -- `vector::vec3::Vec3::normalize` meets its contract. Assumes nothing.
 use Rattle.vector.specs.Normalizing.{normalize}
-use borrow.Author.Rules.{rules}
 use Rattle.vector.proofs.vec3.Vec3.normalize.Goals as goal
 
 pub returns : goal.returns

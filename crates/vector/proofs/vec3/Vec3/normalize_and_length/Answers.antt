@@ -1,6 +1,5 @@
 -- `vector::vec3::Vec3::normalize_and_length` meets its contract. Assumes nothing.
 use Rattle.vector.specs.Normalizing.{normalize_and_length}
-use borrow.Author.Rules.{rules}
 use Rattle.vector.proofs.vec3.Vec3.normalize_and_length.Goals as goal
 
 pub returns-then-usable : goal.returns-then-usable

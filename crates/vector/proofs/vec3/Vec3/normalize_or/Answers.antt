@@ -1,5 +1,4 @@
 -- `vector::vec3::Vec3::normalize_or` meets its contract. Assumes nothing.
-use borrow.Author.Rules.{rules}
 use Rattle.vector.proofs.meanings.NormalizingLaws.{unit_or_is}
 use Rattle.vector.proofs.vec3.Vec3.normalize_or.Goals as goal
 

@@ -1,6 +1,5 @@
 -- `vector::vec3::Vec3::normalize_or_zero` meets its contract. Assumes nothing.
 use Rattle.vector.specs.Normalizing.{normalize_or_zero}
-use borrow.Author.Rules.{rules}
 use Rattle.vector.proofs.vec3.Vec3.normalize_or_zero.Goals as goal
 
 pub returns : goal.returns

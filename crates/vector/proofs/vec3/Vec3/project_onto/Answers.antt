@@ -1,6 +1,5 @@
 -- `vector::vec3::Vec3::project_onto` meets its contract. Assumes nothing.
 use Rattle.vector.specs.Projections.{project_onto}
-use borrow.Author.Rules.{rules}
 use Rattle.vector.proofs.vec3.Vec3.project_onto.Goals as goal
 
 pub returns : goal.returns

@@ -1,6 +1,5 @@
 -- `vector::vec3::Vec3::project_onto_normalized` meets its contract. Assumes nothing.
 use Rattle.vector.specs.Projections.{project_onto_normalized}
-use borrow.Author.Rules.{rules}
 use Rattle.vector.proofs.vec3.Vec3.project_onto_normalized.Goals as goal
 
 pub returns : goal.returns

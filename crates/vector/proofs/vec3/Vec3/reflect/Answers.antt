@@ -1,6 +1,5 @@
 -- `vector::vec3::Vec3::reflect` meets its contract. Assumes nothing.
 use Rattle.vector.specs.Optics.{reflect}
-use borrow.Author.Rules.{rules}
 use Rattle.vector.proofs.vec3.Vec3.reflect.Goals as goal
 
 pub returns : goal.returns

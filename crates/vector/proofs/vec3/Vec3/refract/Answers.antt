@@ -1,6 +1,5 @@
 -- `vector::vec3::Vec3::refract` meets its contract. Assumes nothing.
 use Rattle.vector.specs.Optics.{refract, refract_k}
-use borrow.Author.Rules.{rules}
 use Rattle.vector.proofs.vec3.Vec3.refract.Goals as goal
 
 pub returns-then-k : goal.returns-then-k

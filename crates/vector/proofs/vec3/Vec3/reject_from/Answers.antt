@@ -1,6 +1,5 @@
 -- `vector::vec3::Vec3::reject_from` meets its contract. Assumes nothing.
 use Rattle.vector.specs.Projections.{reject_from}
-use borrow.Author.Rules.{rules}
 use Rattle.vector.proofs.vec3.Vec3.reject_from.Goals as goal
 
 pub returns : goal.returns

@@ -1,6 +1,5 @@
 -- `vector::vec3::Vec3::reject_from_normalized` meets its contract. Assumes nothing.
 use Rattle.vector.specs.Projections.{reject_from_normalized}
-use borrow.Author.Rules.{rules}
 use Rattle.vector.proofs.vec3.Vec3.reject_from_normalized.Goals as goal
 
 pub returns : goal.returns

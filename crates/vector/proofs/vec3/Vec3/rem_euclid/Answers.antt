@@ -1,6 +1,5 @@
 -- `vector::vec3::Vec3::rem_euclid` meets its contract. Assumes nothing.
 use Rattle.vector.specs.Rounding.{rem_euclid}
-use borrow.Author.Rules.{rules}
 use Rattle.vector.proofs.vec3.Vec3.rem_euclid.Goals as goal
 
 pub returns : goal.returns

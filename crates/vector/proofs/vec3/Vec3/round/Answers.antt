@@ -1,6 +1,5 @@
 -- `vector::vec3::Vec3::round` meets its contract. Assumes nothing.
 use Rattle.vector.specs.Rounding.{round}
-use borrow.Author.Rules.{rules}
 use Rattle.vector.proofs.vec3.Vec3.round.Goals as goal
 
 pub returns : goal.returns

@@ -4,7 +4,6 @@ use Prim.Native.Nat.{ℕ}
 use native.Mathlib.Nat.{le_trans, le_of_eq, lt_of_le_of_lt}
 use native.Mathlib.Omega.{arith}
 use lib.Dec.{T}
-use borrow.Author.Rules.{rules}
 use Rattle.scalar.specs.Powers.{times_power, log2}
 use Rattle.scalar.specs.SizeBits.{size_of_bits}
 use Rattle.vector.specs.Vectors.{each}

@@ -1,12 +1,10 @@
 -- `vector::vec3::Vec3::scaled_by` meets its contract. Assumes nothing.
 use mathlib.Core.Path.{◌≡◌, sym, ap, ap₂, ◌∙◌, subst}
 use Prim.Native.Nat.{ℕ, ◌+◌, ◌*◌, ◌^◌, ◌≤◌, ◌<◌}
-use native.Mathlib.Nat.{le_trans, le_of_eq, lt_of_le_of_lt}
-use native.Mathlib.Omega.{arith}
+use native.Mathlib.Nat.{le_trans, le_of_eq}
 use lib.Dec.{T, lit≤}
-use lib.Ieee.{Float, binary32, fits, mul}
+use lib.Ieee.{Float, binary32, fits}
 use lib.Ieee.Scale.{finite}
-use borrow.Author.Rules.{rules}
 use Rattle.laws.specs.Exact.{size_in}
 use Rattle.scalar.specs.Powers.{times_power, power_of_two, log2}
 use Rattle.scalar.specs.SizeBits.{size_bits, largest_bits, size_of_bits}

@@ -1,5 +1,4 @@
 -- `vector::vec3::Vec3::signum` meets its contract. Assumes nothing.
-use borrow.Author.Rules.{rules}
 use Rattle.vector.specs.Signs.{signum}
 use Rattle.vector.proofs.vec3.Vec3.signum.Goals as goal
 

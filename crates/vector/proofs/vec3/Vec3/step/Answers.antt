@@ -1,5 +1,4 @@
 -- `vector::vec3::Vec3::step` meets its contract. Assumes nothing.
-use borrow.Author.Rules.{rules}
 use Rattle.vector.specs.Rounding.{step}
 use Rattle.vector.proofs.vec3.Vec3.step.Goals as goal
 

@@ -1,6 +1,5 @@
 -- `vector::vec3::Vec3::trunc` meets its contract. Assumes nothing.
 use Rattle.vector.specs.Rounding.{trunc}
-use borrow.Author.Rules.{rules}
 use Rattle.vector.proofs.vec3.Vec3.trunc.Goals as goal
 
 pub returns : goal.returns

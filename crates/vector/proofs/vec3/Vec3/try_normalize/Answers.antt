@@ -1,5 +1,4 @@
 -- `vector::vec3::Vec3::try_normalize` meets its contract. Assumes nothing.
-use mathlib.Core.Path.{◌≡◌}
 use Rattle.vector.specs.Normalizing.{try_normalize}
 use Rattle.vector.proofs.meanings.NormalizingLaws.{shown}
 use Rattle.vector.proofs.vec3.Vec3.try_normalize.Goals as goal

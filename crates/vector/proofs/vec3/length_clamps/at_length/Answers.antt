@@ -1,5 +1,4 @@
 -- `vector::vec3::length_clamps::at_length` meets its contract. Assumes nothing.
-use borrow.Author.Rules.{rules}
 use Rattle.vector.proofs.vec3.length_clamps.at_length.Goals as goal
 
 pub returns : goal.returns

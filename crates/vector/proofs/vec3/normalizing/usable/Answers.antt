@@ -1,6 +1,5 @@
 -- `vector::vec3::normalizing::usable` meets its contract. Assumes nothing.
 use Rattle.vector.specs.Normalizing.{usable}
-use borrow.Author.Rules.{rules}
 use Rattle.vector.proofs.vec3.normalizing.usable.Goals as goal
 
 pub returns-then-is_finite : goal.returns-then-is_finite
