@@ -41,7 +41,8 @@ APART_IN = {
 WALK = re.compile(r"/Proof\.antt$")
 USE = re.compile(r"(?m)^(?:ghost |pub )*use +([^\s;{]+?)(?:\.?\{([^}]*)\})?(?: as ([^\s;]+))?;?$")
 DECLARED = re.compile(r"(?m)^ *(?:(?:pub|abbrev|unfoldable|record|data|syntax|ruleset) +)*([a-z][^\s(){}.;,]*)(?: \{[^{}\n]*\})*(?: [a-z][^\s(){}.;,]*)* :(?= )")
-HEADS = ("Need-", "After-", "returns", "loop", "tie", "needs")
+# Names of goals and of loops in a function's old proof.
+MADE = re.compile(r"(?:returns|loop|needs)(?:-|$)")
 
 
 def snake(name):
@@ -54,7 +55,7 @@ def plain(name):
 
 
 def is_old(name):
-    return OLD.match(name) is not None and not name.startswith(HEADS)
+    return OLD.match(name) is not None and not MADE.match(name)
 
 
 def code_and_comments(text, mark):

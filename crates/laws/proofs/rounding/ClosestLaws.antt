@@ -55,14 +55,14 @@ halfway n u q w Ordering.lt c d h e = let t = mul-le-mul_right u c in let s = su
 halfway n u q w Ordering.eq c d h e = absurd (d c)
 halfway n u q w Ordering.gt c d h e = let t = mul-le-mul_right u c in let s = suc-mul w u in omega arith
 
-tie-even : (w u r : ℕ) (o : Ordering) → Cmp o (r * 2) u → r < u → distance (nearest w o * u) (w * u + r) * 2 ≡ u → nearest w o % 2 ≡ 0
-tie-even w u r Ordering.lt c h e = absurd (omega arith)
-tie-even w u r Ordering.eq c h e = omega arith
-tie-even w u r Ordering.gt c h e = let s = suc-mul w u in absurd (omega arith)
+tie_even : (w u r : ℕ) (o : Ordering) → Cmp o (r * 2) u → r < u → distance (nearest w o * u) (w * u + r) * 2 ≡ u → nearest w o % 2 ≡ 0
+tie_even w u r Ordering.lt c h e = absurd (omega arith)
+tie_even w u r Ordering.eq c h e = omega arith
+tie_even w u r Ordering.gt c h e = let s = suc-mul w u in absurd (omega arith)
 
 pub closest_tie : (n u w : ℕ) → 0 < u → (closest n u ≡ w → ⊥) → distance (closest n u * u) n ≡ distance (w * u) n → closest n u % 2 ≡ 0
 closest_tie n u w U d e =
-    tie-even (n / u) u (n % u) (compare (n % u * 2) u) (cmp (n % u * 2) u) (mod-lt n U)
+    tie_even (n / u) u (n % u) (compare (n % u * 2) u) (cmp (n % u * 2) u) (mod-lt n U)
     (subst (λ (m : ℕ). distance (closest n u * u) m * 2 ≡ u) (sym (div-add-mod' n u))
     (halfway n u (closest n u) w (compare (closest n u) w) (cmp (closest n u) w) d (closest_near n u U) e))
 
