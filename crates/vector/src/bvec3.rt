@@ -45,7 +45,6 @@ impl BVec3 {
     }
 
     // The element at an index 0 to 2.
-    #[tactic(auto, unfolding(crate::specs::Masks::test, crate::specs::Indexed::indexed))]
     pub fn test(self, index: u32) -> Tested
         ensures { Masks.answer_of result ≡ Masks.test self index }
     {
