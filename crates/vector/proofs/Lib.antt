@@ -7,3 +7,5 @@ pub mod scaling
 pub mod kept
 pub mod pairs
 pub mod rays
+pub mod CornersLaws
+pub mod ScaledCornersLaws

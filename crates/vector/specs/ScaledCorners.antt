@@ -1,64 +1,37 @@
 -- Cases of document 02's f and g, computed from the definitions. f is the float of a bit pattern.
-use Rattle.std.specs.Prelude.{◌≡◌, refl, true, ℕ, Float}
+use Rattle.std.specs.Prelude.{◌≡◌, true, ℕ, Float}
 use Rattle.std.specs.Float.{nan, inf, binary32}
-use Rattle.std.specs.Float.Ieee.{of_bits, size, round, sum, add, mul, div, lt, eq}
-use Rattle.laws.specs.Exact.{size_in}
-use Rattle.laws.specs.WholeRoot.{whole_root}
-use Rattle.scalar.specs.Root.{root, root_units}
-use Rattle.scalar.specs.Powers.{times_power}
+use Rattle.std.specs.Float.Ieee.{of_bits}
 use Rattle.vector.specs.declared.vec3.normalizing.Normalized.TheVariants.{Unit, Nothing}
 use Rattle.vector.specs.Vectors.{vec, zer, one, X}
-use Rattle.vector.specs.Operators.{mul_number}
-use Rattle.vector.specs.Comparisons.{is_finite}
-use Rattle.vector.specs.Products.{dot, length, length_recip}
-use Rattle.vector.specs.Normalizing.{usable, try_normalize}
+use Rattle.vector.specs.Normalizing.{try_normalize}
 use Rattle.vector.specs.Scaled.{scaled}
-use Rattle.vector.specs.DirectionOf.{three_zeros, direction_of, direction_unchecked}
+use Rattle.vector.specs.DirectionOf.{direction_of, direction_unchecked}
 
 abbrev f : ℕ → Float
 f b = of_bits binary32 b
 
 pub record ScaledCorners : Type 0 where
   -- "The marked case (2^-64, 0, 0) now gives (1, 0, 0)"; "`try_normalize` itself keeps its answers": of (2^-80, 0, 0), whose square vanishes, there is none
-  short : direction_of (vec (f 0x1f800000) zer zer) ≡ Unit X
-  unscaled : try_normalize (vec (f 0x17800000) zer zer) ≡ Nothing
-  shorter : direction_of (vec (f 0x17800000) zer zer) ≡ Unit X
+  pub short : direction_of (vec (f 0x1f800000) zer zer) ≡ Unit X
+  pub unscaled : try_normalize (vec (f 0x17800000) zer zer) ≡ Nothing
+  pub shorter : direction_of (vec (f 0x17800000) zer zer) ≡ Unit X
   -- the largest size just below 1 and just below 2, by the powers 2 and 1
-  below_one : scaled (vec (f 0x3f7fffff) zer zer) ≡ vec (f 0x3fffffff) zer zer
-  below_two : scaled (vec zer (f 0xbfffffff) one) ≡ vec zer (f 0xbfffffff) one
+  pub below_one : scaled (vec (f 0x3f7fffff) zer zer) ≡ vec (f 0x3fffffff) zer zer
+  pub below_two : scaled (vec zer (f 0xbfffffff) one) ≡ vec zer (f 0xbfffffff) one
   -- the smallest f32: the power 2^149 is no f32
-  smallest : scaled (vec zer (f 1) zer) ≡ vec zer one zer
+  pub smallest : scaled (vec zer (f 1) zer) ≡ vec zer one zer
   -- 2^127, whose power 2^-127 is a subnormal f32, beside -2^-149, which vanishes and keeps its sign
-  longest : scaled (vec (f 0x7f000000) (f 0x80000001) zer) ≡ vec one (f 0x80000000) zer
+  pub longest : scaled (vec (f 0x7f000000) (f 0x80000001) zer) ≡ vec one (f 0x80000000) zer
   -- "each exact product is rounded once": a little less than 3 times 2^-150 is 2^-149; by 2^-126 and then 2^-1 it would be 2^-148
-  once : scaled (vec (f 0x7f000000) zer (f 0x34bfffff)) ≡ vec one zer (f 1)
+  pub once : scaled (vec (f 0x7f000000) zer (f 0x34bfffff)) ≡ vec one zer (f 1)
   -- to even: 3 times 2^-149 and 2^-1 are 2 times 2^-149
-  tie : scaled (vec (f 0x40000000) (f 3) zer) ≡ vec one (f 2) zer
+  pub tie : scaled (vec (f 0x40000000) (f 3) zer) ≡ vec one (f 2) zer
   -- "exactly for three zeros .. for those or a number not finite"
-  zeros : direction_of (vec zer (f 0x80000000) zer) ≡ Nothing
-  infinite : direction_of (vec one (inf true) zer) ≡ Nothing
+  pub zeros : direction_of (vec zer (f 0x80000000) zer) ≡ Nothing
+  pub infinite : direction_of (vec one (inf true) zer) ≡ Nothing
   -- without the test: the direction where there is one; NaNs of three zeros and of a NaN, and zeros beside an infinite component
-  unchecked : direction_unchecked (vec (f 0x1f800000) zer zer) ≡ X
-  unchecked_zeros : direction_unchecked (vec zer (f 0x80000000) zer) ≡ vec nan nan nan
-  unchecked_nan : direction_unchecked (vec nan one (inf true)) ≡ vec nan nan nan
-  unchecked_infinite : direction_unchecked (vec one (inf true) (f 0x80000001)) ≡ vec zer nan (f 0x80000000)
-
-pub scaled_corners : ScaledCorners
-unfolding direction_of direction_unchecked three_zeros scaled is_finite times_power size_in size round of_bits try_normalize usable length_recip length dot root root_units whole_root mul_number mul add sum div lt eq
-scaled_corners = record {
-  short = refl;
-  unscaled = refl;
-  shorter = refl;
-  below_one = refl;
-  below_two = refl;
-  smallest = refl;
-  longest = refl;
-  once = refl;
-  tie = refl;
-  zeros = refl;
-  infinite = refl;
-  unchecked = refl;
-  unchecked_zeros = refl;
-  unchecked_nan = refl;
-  unchecked_infinite = refl;
-}
+  pub unchecked : direction_unchecked (vec (f 0x1f800000) zer zer) ≡ X
+  pub unchecked_zeros : direction_unchecked (vec zer (f 0x80000000) zer) ≡ vec nan nan nan
+  pub unchecked_nan : direction_unchecked (vec nan one (inf true)) ≡ vec nan nan nan
+  pub unchecked_infinite : direction_unchecked (vec one (inf true) (f 0x80000001)) ≡ vec zer nan (f 0x80000000)
