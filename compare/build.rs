@@ -1,5 +1,5 @@
 //! Finds the Rust of glam: the folder that the variable GLAM_SRC names, or the documents beside the repository. With the feature
-//! `capi`, also the library libcapi.a: in the folder that the variable CAPI names, or where `rt staticlib capi` writes it.
+//! `capi`, also the library libcapi.a: in the folder that the variable CAPI names, or where `rt lib` writes it, crates/capi/out.
 
 use std::env;
 use std::ffi::OsString;
@@ -23,7 +23,7 @@ fn named(variable: &str, usual: &str) -> OsString {
 }
 
 fn find_library() {
-    let folder = named("CAPI", "../target/staticlib");
+    let folder = named("CAPI", "../crates/capi/out");
     match PathBuf::from(&folder).canonicalize() {
         Ok(found) if found.join("libcapi.a").is_file() => {
             println!("cargo::rustc-link-search=native={}", found.display());

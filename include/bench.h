@@ -1,6 +1,6 @@
 /* The aiming bench as a library for C and Rust: IEEE 754 functions on floats, and a sheet of points, directions and planes on which commands run.
 
-   `rt staticlib capi` proves the functions and writes them to target/staticlib/libcapi.a. A program needs this header and that file, and no other library but C's own.
+   `rt lib` in crates/capi proves the functions and writes them to crates/capi/out/libcapi.a. A program needs this header and that file, and no other library but C's own.
 
    In every call the caller sees to it
    - that a pointer is not NULL, not even beside a count of 0, and that there are as many numbers or bytes behind it as the count beside it says;

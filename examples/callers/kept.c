@@ -1,5 +1,5 @@
 /* Keeps a sheet over several calls from C: commands one by one, a line, a list, a command that is refused, one that is taken back, and a plane.
-   rt staticlib capi && gcc -I include examples/callers/kept.c target/staticlib/libcapi.a -o target/kept && target/kept */
+   compare/built capi && mkdir -p target && gcc -I include examples/callers/kept.c crates/capi/out/libcapi.a -o target/kept && target/kept */
 #include "bench.h"
 #include <inttypes.h>
 #include <stdio.h>

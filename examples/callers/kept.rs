@@ -1,5 +1,5 @@
 // Keeps a sheet over several calls from Rust: commands one by one, a line, a list, a command that is refused, one that is taken back, and a plane.
-// rt staticlib capi && rustc -O examples/callers/kept.rs -L target/staticlib -l static=capi -o target/kept && target/kept
+// compare/built capi && mkdir -p target && rustc -O examples/callers/kept.rs -L crates/capi/out -l static=capi -o target/kept && target/kept
 
 extern "C" {
     fn bench_words() -> usize;

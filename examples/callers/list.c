@@ -1,5 +1,5 @@
 /* Runs document 01's listing from C: the point (3, 4, 0), its length, its direction.
-   rt staticlib capi && gcc -I include examples/callers/list.c target/staticlib/libcapi.a -o target/list && target/list */
+   compare/built capi && mkdir -p target && gcc -I include examples/callers/list.c crates/capi/out/libcapi.a -o target/list && target/list */
 #include "bench.h"
 #include <stdio.h>
 

@@ -1,5 +1,5 @@
 // Runs document 01's listing from Rust: the point (3, 4, 0), its length, its direction.
-// rt staticlib capi && rustc -O examples/callers/list.rs -L target/staticlib -l static=capi -o target/list && target/list
+// compare/built capi && mkdir -p target && rustc -O examples/callers/list.rs -L crates/capi/out -l static=capi -o target/list && target/list
 
 extern "C" {
     fn bench_run(commands: *const u32, count: usize, answers: *mut u32, lent: usize) -> u32;
