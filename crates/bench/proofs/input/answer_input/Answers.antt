@@ -25,7 +25,7 @@ loop-reads-preserved c =
 
 pub returns-then-written : goal.returns-then-written
 returns-then-written c =
-    input_ended _ _ _ _ _ _ (read_ended c.loop-reads.invariant.0 c.read_once-t.ensures c.in-Ended.is) (ap (λ (e : EndedInto). e.bytes) c.answer_end-last.ensures)
+    input_ended _ _ _ _ _ _ (read_ended c.loop-reads.invariant.0 c.read_once-t.ensures (cc)) (ap (λ (e : EndedInto). e.bytes) c.answer_end-last.ensures)
 
 pub returns-in-Ended : goal.returns-in-Ended
 returns-in-Ended c =
