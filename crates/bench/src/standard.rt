@@ -5,7 +5,8 @@ ghost use Rattle.bench.specs.Feeding.{most};
 
 use std::io::{Print, Read, Stderr, Stdin, Stdout};
 
-// Reads up to as many bytes as the chunk has. Gives how many lie at its start, 0 at the end of the input, or -1 where the read failed.
+// Reads up to as many bytes as the chunk has. Gives how many lie at its start, 0 at the end of the
+// input, or -1 where the read failed.
 pub(crate) fn read(stdin: Stdin, chunk: &mut [u8]) -> isize
     requires { length chunk.old ≤ most }
     ensures { Moved (length chunk.new) result }
@@ -17,7 +18,7 @@ pub(crate) fn read(stdin: Stdin, chunk: &mut [u8]) -> isize
     }
 }
 
-// What a read answered, brought into the chunk.
+// How many bytes at the start of the chunk a read filled: none where it answered 0 or -1.
 pub(crate) fn count(got: isize, chunk: &[u8]) -> usize
     ensures in_bounds { result ≤ length chunk.now }
     ensures value { result ≡ clamp_len got (length chunk.now) }
