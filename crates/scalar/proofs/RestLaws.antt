@@ -22,7 +22,8 @@ use Rattle.laws.proofs.solvers.RingNat.{ring}
 use Rattle.laws.proofs.values.ValueLaws.{value_unique}
 use Rattle.scalar.specs.Parts.{Split, Packs}
 use Rattle.scalar.proofs.floats.PackLaws.{pack_is}
-use Rattle.scalar.proofs.floats.PartsLaws.{Other, value_of_parts, parts_under}
+use Rattle.scalar.proofs.floats.PartsLaws.{Other, other, value_of_parts, parts_under}
+use Rattle.scalar.proofs.floats.SignLaws.{nan_constant}
 use Rattle.scalar.proofs.RemainderLaws.{mod_scale, rem_at, apart}
 use Rattle.scalar.proofs.roots.RootPartsLaws.{zeros_in}
 
@@ -181,3 +182,9 @@ module _ (a b : Float) (s : Bool) (m k : ℕ) (A : a ≡ odd 24 s m k 149) where
       rem_rest h =
           sym (rem_sizes
           ∙ ap (λ (x : ℕ). round binary32 s x (2 ^ 149)) (ap (λ (x : ℕ). x % (n * 2 ^ d)) (apart m d k h) ∙ mod_scale (m * 2 ^ (k - d)) n (2 ^ d) P (pow_pos d)))
+
+-- what `pack_exact` of src/remainder.rt uses
+pub ruleset repacking = (zeros_in, repacked, repacks_none, repacks_full, repacks_low)
+
+-- and `rem` of src/euclid.rt
+pub ruleset remainders = (other, nan_constant, rem_other, rem_by_nan, rem_by_zero, rem_smaller)

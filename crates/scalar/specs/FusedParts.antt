@@ -1,11 +1,10 @@
 -- What the functions of the one rounding and of the fused multiply-add promise each other.
-use Rattle.std.specs.Prelude.{◌≡◌, Bool, ◌⊎◌, ℕ, ◌*◌, ◌%◌, ◌^◌, ◌≤◌, ◌<◌, Float}
+use Rattle.std.specs.Prelude.{◌≡◌, Bool, Option, None, Some, ◌⊎◌, ℕ, ◌*◌, ◌%◌, ◌^◌, ◌≤◌, ◌<◌, Float}
 use Rattle.std.specs.Int.Count.{count_leading_zeros}
 use Rattle.std.specs.Float.{nan, inf, fin}
 use Rattle.std.specs.Float.Ieee.Exact.{HasValue}
 use Rattle.laws.specs.Sticky.{sticky}
 use Rattle.scalar.specs.declared.fused.Factor.{Factor}
-use Rattle.scalar.specs.declared.fused.Factor.TheVariants.{Other, Number}
 
 -- w is v shifted left to 64 bits, and then right by one with a sticky bit: normalized, in 63 bits
 pub record Normalized (v w : ℕ) : Type 0 where
@@ -30,9 +29,9 @@ pub record Normal (x : Float) (s : Bool) (m k : ℕ) : Type 0 where
   pub high : m < 2 ^ 24
   pub range : k ≤ 276
 
-abbrev pub Factored : Factor → Float → Type 0
-Factored Other x = Plain x
-Factored (Number s m k) x = Normal x s m k
+abbrev pub Factored : Option Factor → Float → Type 0
+Factored None x = Plain x
+Factored (Some f) x = Normal x f.negative f.m f.k
 
 -- Two terms of up to 62 bits, the last 14 of them zeros, so that a term loses bits only where it is shifted right by 15 or more. The one
 -- that then is not shifted has 61 bits or more, or its exponent is so low that an f32's last bit lies two bits above its own.

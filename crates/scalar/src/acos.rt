@@ -6,12 +6,14 @@ use crate::root::sqrt;
 use crate::sign::abs;
 
 // Close to the arc cosine of v clamped to -1 .. 1; based on DirectXMath's XMScalarAcos.
+#[tactic(auto, using(crate::proofs::ComposedLaws::acos_cases))]
 pub fn acos_approx(v: f32) -> f32
     ensures { result ≡ Acos.acos_approx v }
 {
     let nonnegative = v >= 0.0;
     let x = abs(v);
     let mut omx = 1.0 - x;
+    // an `if`: `max` would give 0 for a NaN
     if omx < 0.0 {
         omx = 0.0;
     }

@@ -7,19 +7,21 @@ use crate::integral::trunc;
 use crate::remainder::{pack_exact, rest};
 use crate::sign::abs;
 
-// The operator `%`: m * 2 ^ (k - d) modulo n, times 2 ^ d. Where k < d, b has 24 bits and is larger than a (RestLaws.rem_smaller, RestLaws.rem_rest).
+// The operator `%`: m * 2 ^ (k - d) modulo n, times 2 ^ d. Where k < d, b has 24 bits and is larger
+// than a (RestLaws.rem_smaller, RestLaws.rem_rest).
+#[tactic(auto, using(crate::proofs::RestLaws::remainders))]
 pub fn rem(a: f32, b: f32) -> f32
     ensures { result ≡ Euclid.remainder a b }
 {
     let Parts::Fin(s, m, k) = decode(a) else {
-        return 0.0 / 0.0;
+        return f32::NAN;
     };
     match decode(b) {
         Parts::Nan => b,
         Parts::Inf(_) => a,
         Parts::Fin(_, n, d) => {
             if n == 0 {
-                return 0.0 / 0.0;
+                return f32::NAN;
             }
             if k < d {
                 return a;
@@ -29,6 +31,7 @@ pub fn rem(a: f32, b: f32) -> f32
     }
 }
 
+#[tactic(auto, using(crate::proofs::ComposedLaws::div_is))]
 pub fn div_euclid(a: f32, b: f32) -> f32
     ensures { result ≡ Euclid.div_euclid a b }
 {
@@ -39,6 +42,7 @@ pub fn div_euclid(a: f32, b: f32) -> f32
     q
 }
 
+#[tactic(auto, using(crate::proofs::ComposedLaws::rem_is))]
 pub fn rem_euclid(a: f32, b: f32) -> f32
     ensures { result ≡ Euclid.rem_euclid a b }
 {

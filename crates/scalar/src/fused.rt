@@ -1,4 +1,5 @@
-// The fused multiply-add: the product and the third argument are shifted right to the larger exponent with a sticky bit, added, and rounded once.
+// The fused multiply-add: the product and the third argument are shifted right to the larger
+// exponent with a sticky bit, added, and rounded once.
 ghost use Rattle.std.specs.Prelude.{◌≡◌, cond, ◌+◌, ◌-◌, ◌*◌, ◌^◌, ◌<◌};
 ghost use Rattle.std.specs.Float.Ieee as Ieee;
 ghost use Rattle.std.specs.Float.{binary32};
@@ -16,60 +17,75 @@ const PRODUCT: u32 = BIAS - 2 * 172 - 14;
 const TERM: u32 = BIAS - 149 - 38;
 
 // a times b plus c, rounded once.
+#[tactic(auto, using(crate::proofs::products::FusedLaws::multiply_adds))]
 pub fn mul_add(a: f32, b: f32, c: f32) -> f32
     ensures { result ≡ Fused.mul_add a b c }
 {
-    let Factor::Number(s, m, k) = factor_of(a) else {
+    let Some(x) = factor_of(a) else {
         return a * b + c; // FusedLaws.plain_first
     };
-    let Factor::Number(t, n, d) = factor_of(b) else {
+    let Some(y) = factor_of(b) else {
         return a * b + c; // FusedLaws.plain_second
     };
     let Parts::Fin(u, q, g) = decode(c) else {
         return c; // FusedLaws.other_term
     };
-    let p = (m as u64) * (n as u64); // 2 ^ 46 ≤ p < 2 ^ 48 (FusedLaws.product_in)
-    // the terms meet what `aligned` requires (FusedLaws.terms), and their sum is a * b + c (FusedLaws.number_sum)
+    let p = (x.m as u64) * (y.m as u64); // 2 ^ 46 ≤ p < 2 ^ 48 (FusedLaws.product_in)
+    // the terms meet what `aligned` requires (FusedLaws.terms), and their sum is a * b + c
+    // (FusedLaws.number_sum)
     aligned(
-        s != t,
+        x.negative != y.negative,
         p << 14,
-        k + d + PRODUCT,
+        x.k + y.k + PRODUCT,
         u,
         (q as u64) << 38,
         g + TERM,
     )
 }
 
-// A factor: `Number(s, m, k)` is m times 2 ^ (k - 172), m of 24 bits; with any other factor the product is exact.
+// A factor: ±m times 2 ^ (k - 172), m of 24 bits.
 #[derive(Clone, Copy)]
-enum Factor {
-    Other,
-    Number(bool, u32, u32),
+struct Factor {
+    negative: bool,
+    m: u32,
+    k: u32,
 }
 
-fn factor_of(x: f32) -> Factor
+// x as a factor; none for a NaN, an infinity or a zero, with which each product is exact.
+#[tactic(auto, using(crate::proofs::products::FusedLaws::factors))]
+fn factor_of(x: f32) -> Option<Factor>
     ensures { Factored result x }
 {
-    let Parts::Fin(s, q, k) = decode(x) else {
-        return Factor::Other;
+    let Parts::Fin(negative, q, k) = decode(x) else {
+        return None;
     };
     if q == 0 {
-        return Factor::Other; // FusedLaws.plain_zero
+        return None; // FusedLaws.plain_zero
     }
     if q < 0x80_0000 {
         let z = u32::leading_zeros(q) - 8; // z ≤ 23 (FusedLaws.zeros_left)
-        return Factor::Number(s, q << z, 23 - z); // FusedLaws.factor_short
+        return Some(Factor {
+            negative,
+            m: q << z,
+            k: 23 - z,
+        }); // FusedLaws.factor_short
     }
-    Factor::Number(s, q, k + 23) // FusedLaws.factor_full
+    Some(Factor {
+        negative,
+        m: q,
+        k: k + 23,
+    }) // FusedLaws.factor_full
 }
 
 // ±x times 2 ^ i plus ±y times 2 ^ j, counted in 2 ^ -BIAS, rounded once.
+#[tactic(auto, using(crate::proofs::products::AlignLaws::aligns))]
 fn aligned(s: bool, x: u64, i: u32, t: bool, y: u64, j: u32) -> f32
     requires { Terms x i y j }
     ensures { result ≡ Ieee.sum binary32 s (x * 2 ^ i) t (y * 2 ^ j) (2 ^ 426) }
 {
-    let e = higher(i, j);
-    // in 63 bits each (AlignLaws.aligned_fit), and the rounded sum is the same (AlignLaws.aligned_sum)
+    let e = i.max(j);
+    // in 63 bits each (AlignLaws.aligned_fit), and the rounded sum is the same
+    // (AlignLaws.aligned_sum)
     sum(
         s,
         shift_right_sticky(x, e - i),
@@ -77,13 +93,6 @@ fn aligned(s: bool, x: u64, i: u32, t: bool, y: u64, j: u32) -> f32
         shift_right_sticky(y, e - j),
         e,
     )
-}
-
-// The larger exponent.
-pub(crate) fn higher(i: u32, j: u32) -> u32
-    ensures { result ≡ i + (j - i) }
-{
-    if i < j { j } else { i }
 }
 
 // ±x plus ±y, times 2 ^ (e - BIAS), rounded once.
@@ -104,6 +113,6 @@ fn size_of(unlike: bool, x: u64, y: u64) -> u64
     requires { (x < 2 ^ 63) × (y < 2 ^ 63) }
     ensures { result ≡ cond unlike (distance x y) (x + y) }
 {
-    let apart = if x < y { y - x } else { x - y };
+    let apart = x.abs_diff(y); // first, so that the `if` can be a conditional move
     if unlike { apart } else { x + y }
 }

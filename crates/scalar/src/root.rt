@@ -1,4 +1,5 @@
-// The rounded root, by a whole root that is worked out digit by digit and one comparison of whole squares; and whether it is exact.
+// The rounded root, by a whole root that is worked out digit by digit and one comparison of whole
+// squares; and whether it is exact.
 ghost use Rattle.std.specs.Prelude.{◌≡◌, ◌+◌, ◌*◌, ◌/◌, ◌^◌, ◌≤◌, ◌<◌};
 ghost use Rattle.std.specs.Float.Ieee as Ieee;
 ghost use Rattle.scalar.specs.Root as Root;
@@ -10,23 +11,24 @@ ghost use Rattle.scalar.specs.RootParts.{Positive, Shift, NearRoot};
 use crate::bits::{Parts, decode, pack};
 
 // The rounded root. Most arguments are positive and normal, and are told by their bits.
+#[tactic(auto, using(crate::proofs::roots::RootPartsLaws::normal_roots))]
 pub fn sqrt(x: f32) -> f32
     ensures { result ≡ Root.root x }
 {
-    if x != x {
+    if x.is_nan() {
         return x;
     }
     let b = f32::to_bits(x);
-    if b >= 0x80_0000 {
-        if b < 0x7f80_0000 {
-            let k = b / 0x80_0000 - 1; // x is (b % 2 ^ 23 + 2 ^ 23) * 2 ^ k smallest values (BitsLaws.normal)
-            return root_of(b % 0x80_0000 + 0x80_0000, k, 23 + k % 2); // RootPartsLaws.shift_normal
-        }
+    if b >= 0x80_0000 && b < 0x7f80_0000 {
+        // x is (b % 2 ^ 23 + 2 ^ 23) * 2 ^ k smallest values (BitsLaws.normal)
+        let k = b / 0x80_0000 - 1;
+        return root_of(b % 0x80_0000 + 0x80_0000, k, 23 + k % 2); // RootPartsLaws.shift_normal
     }
     other_root(x)
 }
 
-// A root, and whether it is exact: whether its square is the argument, without rounding.
+// A root, and whether it is exact: whether its square is the argument, without rounding. Either
+// mark has its root, and `root_and_exactness` is of the pair.
 #[derive(Clone, Copy)]
 pub struct MarkedRoot {
     pub root: f32,
@@ -34,17 +36,19 @@ pub struct MarkedRoot {
 }
 
 // The rounded root, and whether it is exact.
+#[tactic(auto, unfolding(crate::specs::ExactRoot::root_and_exactness))]
 pub fn sqrt_and_exactness(x: f32) -> MarkedRoot
     ensures { result ≡ ExactRoot.root_and_exactness x }
 {
     let root = sqrt(x);
     MarkedRoot {
-        root: root,
+        root,
         exact: is_exact(x, root),
     }
 }
 
-// Whether the rounded root of x is exact. Its significand m is the whole number nearest to the root of x's radicand n, and m * m is n exactly where the root's square is x.
+// Whether the rounded root of x is exact. Its significand m is the whole number nearest to the root
+// of x's radicand n, and m * m is n exactly where the root's square is x.
 fn is_exact(x: f32, root: f32) -> bool
     requires { root ≡ Root.root x }
     ensures { result ≡ ExactRoot.exact_root x }
@@ -58,12 +62,14 @@ fn is_exact(x: f32, root: f32) -> bool
     if s {
         return false; // below zero
     }
-    let n = (q as u64) << shift_of(q, k); // x is n * 4 ^ h / 2 ^ 298 for some h (RootPartsLaws.radicand_is)
+    // x is n * 4 ^ h / 2 ^ 298 for some h (RootPartsLaws.radicand_is)
+    let n = (q as u64) << shift_of(q, k);
     let m = (f32::to_bits(root) % 0x80_0000 + 0x80_0000) as u64; // a root above zero is normal
     m * m == n // ExactRootLaws.significand_exact
 }
 
 // The rounded root of any float: of zeros, infinities, what is below zero, and subnormals.
+#[tactic(auto, using(crate::proofs::roots::RootCases::root_cases))]
 fn other_root(x: f32) -> f32
     ensures { result ≡ Root.root x }
 {
@@ -71,7 +77,7 @@ fn other_root(x: f32) -> f32
         Parts::Nan => x,
         Parts::Inf(s) => {
             if s {
-                return 0.0 / 0.0;
+                return f32::NAN;
             }
             x
         }
@@ -80,7 +86,7 @@ fn other_root(x: f32) -> f32
                 return x;
             }
             if s {
-                return 0.0 / 0.0;
+                return f32::NAN;
             }
             root_of(q, k, shift_of(q, k))
         }
@@ -88,16 +94,20 @@ fn other_root(x: f32) -> f32
 }
 
 // The rounded root of q times 2 ^ k of the smallest values, q being shifted left by a bits.
+#[tactic(auto, using(crate::proofs::roots::RootPartsLaws::root_all))]
 fn root_of(q: u32, k: u32, a: u32) -> f32
     requires { Positive q k × Shift q k a }
     ensures { result ≡ Root.root_units (q * 2 ^ k) }
 {
-    let n = (q as u64) << a; // q * 2 ^ k * 2 ^ 149 is n * 4 ^ h, h being (k + 149 - a) / 2 (RootPartsLaws.radicand_is)
+    // q * 2 ^ k * 2 ^ 149 is n * 4 ^ h, h being (k + 149 - a) / 2 (RootPartsLaws.radicand_is)
+    let n = (q as u64) << a;
     let r = nearest_root(n);
-    pack(false, r, (k + 149 - a) / 2) // the rounded root is r * 2 ^ h smallest values (RootPartsLaws.root_all)
+    // the rounded root is r * 2 ^ h smallest values (RootPartsLaws.root_all)
+    pack(false, r, (k + 149 - a) / 2)
 }
 
-// By how many bits q is shifted left, so that it has 47 or 48 bits and what is left of the exponent is even.
+// By how many bits q is shifted left, so that it has 47 or 48 bits and what is left of the exponent
+// is even.
 fn shift_of(q: u32, k: u32) -> u32
     requires { Positive q k }
     ensures { Shift q k result }
@@ -118,24 +128,26 @@ fn nearest_root(n: u64) -> u32
     r as u32 // it is below r + 1/2 (RootPartsLaws.near_stays)
 }
 
-// The whole root of a radicand of 47 or 48 bits, a digit of base 4 at a time, the highest first: twelve rounds.
+// The whole root of a radicand of 47 or 48 bits, a digit of base 4 at a time, the highest first:
+// twelve rounds.
 fn whole_root(n: u64) -> u64
-    requires { (2 ^ 46 ≤ n) × (n < 2 ^ 48) }
+    requires { n < 2 ^ 48 }
     ensures { WholeRoot n result }
 {
     let mut s: u64 = 0;
-    let mut k: u32 = 48; // s is the whole root of n >> k (DigitLaws.no_bits)
-    while 0 < k {
-        k -= 4;
-        s = with_digit(n >> k, s); // n >> k has four bits more than before (DigitLaws.four_bits)
+    // s is the whole root of n >> (48 - 4 * digit) (DigitLaws.no_bits)
+    for digit in 0..12u32 {
+        // n >> (44 - 4 * digit) has four bits more (DigitLaws.four_bits)
+        s = with_digit(n >> (44 - 4 * digit), s);
     }
     s // DigitLaws.all_bits
 }
 
-// The whole root of m, s being that of m / 16: s with a digit more. The digit's second bit is found for either value of its first, so that no
-// square waits for another, and each `if` can be a conditional move.
+// The whole root of m, s being that of m / 16: s with a digit more. The digit's second bit is found
+// for either value of its first, so that no square waits for another, and each `if` can be a
+// conditional move.
 fn with_digit(m: u64, s: u64) -> u64
-    requires { (m < 2 ^ 48) × WholeRoot (m / 16) s }
+    requires { (s < 2 ^ 22) × WholeRoot (m / 16) s }
     ensures { WholeRoot m result }
 {
     let high = 4 * s + 2;

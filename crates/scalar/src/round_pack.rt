@@ -13,7 +13,8 @@ pub const BIAS: u32 = 426;
 
 // Above this exponent 24 bits of a 64-bit number are kept, and 40 dropped.
 const FULL: u32 = BIAS - 149 - 40;
-// Up to it the bits below the smallest value, 2 ^ -149, are dropped: of 63 bits one less than of 64.
+// Up to it the bits below the smallest value, 2 ^ -149, are dropped: of 63 bits one less than of
+// 64.
 const LOW: u32 = BIAS - 149 - 1;
 
 // ±v times 2 ^ (e - BIAS) as an f32, rounded once to nearest even.
@@ -26,7 +27,8 @@ pub fn round_pack(negative: bool, v: u64, e: u32) -> f32
     let z = u64::leading_zeros(v);
     let w = normalized(v);
     if e > z + FULL {
-        let k = e - (z + FULL); // the unit in the last place is 2 ^ k smallest values (RoundPackLaws.ulp_full)
+        // the unit in the last place is 2 ^ k smallest values (RoundPackLaws.ulp_full)
+        let k = e - (z + FULL);
         if k > 253 {
             return pack(negative, 0x100_0000, 253); // infinity (RoundPackLaws.ulp_inf)
         }
@@ -40,6 +42,7 @@ pub fn round_pack(negative: bool, v: u64, e: u32) -> f32
 }
 
 // v normalized to 63 bits: shifted left, or right by one with a sticky bit where it has 64.
+#[tactic(auto, using(crate::proofs::products::WordLaws::normalizes))]
 fn normalized(v: u64) -> u64
     requires { 0 < v }
     ensures { Normalized v result }
@@ -52,6 +55,7 @@ fn normalized(v: u64) -> u64
 }
 
 // w / 2 ^ g rounded to nearest even, by the carry of a sum (CarryLaws.closest_carry).
+#[tactic(auto, using(crate::proofs::products::WordLaws::carries))]
 fn nearest(w: u64, g: u32) -> u32
     requires { (w < 2 ^ 63) × (39 ≤ g) × (g ≤ 63) }
     ensures { result ≡ Nearest.closest w (2 ^ g) }
@@ -61,11 +65,12 @@ fn nearest(w: u64, g: u32) -> u32
     ((w + (half - 1) + odd) >> g) as u32 // WordLaws.carried; below 2 ^ 32 (WordLaws.quotient_fits)
 }
 
-// v shifted right by d, with a sticky bit: the last bit is set where a bit that is not 0 was dropped.
+// v shifted right by d, with a sticky bit: the last bit is set where a bit that is not 0 was
+// dropped.
 pub(crate) fn shift_right_sticky(v: u64, d: u32) -> u64
     ensures { result ≡ Sticky.sticky v (2 ^ d) }
 {
-    let c = if d < 63 { d } else { 63 }; // a shift by more drops the same (WordLaws.shift_within)
+    let c = d.min(63); // a shift by more drops the same (WordLaws.shift_within)
     let h = v >> c;
     if h << c == v { h } else { h / 2 * 2 + 1 } // StickyLaws.sticky_whole, StickyLaws.sticky_lossy
 }

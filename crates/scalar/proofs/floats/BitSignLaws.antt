@@ -6,8 +6,8 @@ use native.Mathlib.Nat.{zero-add}
 use native.Mathlib.Omega.{arith}
 use lib.Dec.{T, leb, eqb, le→leb}
 use lib.Arith.{lt→nleb}
-use lib.Ieee.{Float, nan, inf, fin, binary32, odd, neg, fits, of_fields, of_bits, to_bits, is_nan}
-use lib.Ieee.Bits.{is_true, is_false, of_bits-to_bits}
+use lib.Ieee.{Float, nan, inf, fin, binary32, odd, neg, fits, of_fields, of_bits, to_bits, is_nan, nan_bits}
+use lib.Ieee.Bits.{is_true, is_false, nan_bits_is, of_bits-to_bits}
 use Rattle.laws.specs.Exact.{negative}
 use Rattle.scalar.specs.Sign.{abs, copysign, sign_bit, copysign_bits}
 use Rattle.scalar.proofs.floats.SignLaws.{sign_odd, copy}
@@ -114,3 +114,16 @@ copysign_number w x h = go w (negative x) h
     go : (w : Float) (s : Bool) → T (not (is_nan w)) → T (not (is_nan (cond s (neg (abs w)) (abs w))))
     go w true h = neg_number (abs w) (abs_number w h)
     go w false h = abs_number w h
+
+-- ---- and these patterns are no NaN's
+pub abs_pattern : (x : Float) → T (fits binary32 x) → T (not (is_nan x)) → T (not (nan_bits binary32 (to_bits binary32 x % 2147483648)))
+abs_pattern x fx n = subst (λ (b : Bool). T (not b)) (sym (nan_bits_is binary32 (to_bits binary32 x % 2147483648) ∙ ap is_nan (abs_by_bits x fx))) (abs_number x n)
+
+pub copysign_pattern : (b : ℕ) (w x : Float) → b ≡ copysign_bits (to_bits binary32 w) (to_bits binary32 x) → T (fits binary32 w) → T (fits binary32 x) → T (not (is_nan w)) → T (not (is_nan x)) → T (not (nan_bits binary32 b))
+copysign_pattern b w x e fw fx m n = subst (λ (c : Bool). T (not c)) (sym (nan_bits_is binary32 b ∙ ap is_nan (ap (of_bits binary32) e ∙ copysign_by_bits w x fw fx n))) (copysign_number w x m)
+
+pub signed_pattern : (b : ℕ) (w x : Float) → b ≡ copysign_bits (to_bits binary32 w) (to_bits binary32 x) → T (fits binary32 w) → T (fits binary32 x) → T (not (is_nan x)) → of_bits binary32 b ≡ copysign w x
+signed_pattern b w x e fw fx n = ap (of_bits binary32) e ∙ copysign_by_bits w x fw fx n
+
+-- what `size` of src/integral.rt uses
+pub ruleset abs_bits = (abs_by_bits, abs_pattern)

@@ -1,23 +1,30 @@
 -- The fields of a float's bit pattern, and the significand and the exponent that they give. Assumes nothing.
 use mathlib.Core.Path.{◌≡◌, refl, sym, ap, ap₂, ◌∙◌, subst}
-use mathlib.Core.Bool.{Bool, true, false, not, cond}
+use mathlib.Core.Bool.{Bool, true, false, not, cond, true≢false}
 use Prim.Native.Nat.{ℕ, zero, suc, ◌+◌, ◌-◌, ◌*◌, ◌/◌, ◌%◌, ◌^◌, ◌≤◌, ◌<◌}
 use native.Mathlib.Nat.{add_comm}
 use native.Mathlib.Omega.{arith}
 use lib.Dec.{T, leb, ltb, eqb, eqb→eq, eqb_refl}
-use lib.Ieee.{Float, nan, inf, fin, binary32, Format, prec, low, emax, odd, units, round, neg, fits, is_nan, ne, eq, to_bits, of_bits, of_fields}
+use lib.Ieee.{Float, nan, inf, fin, binary32, Format, prec, low, emax, odd, units, round, neg, fits, is_nan, to_bits, of_bits, of_fields}
 use lib.Arith.{lt→nleb}
 use lib.Ieee.Bits.{of_bits-to_bits, is_false}
 use lib.Ieee.Scale.{finite}
 use Rattle.laws.proofs.values.FiniteLaws.{finite_number}
 use Rattle.scalar.specs.Parts.{Split}
 
--- ---- a float that equals itself is no NaN
-pub equal_no_nan : (x : Float) → ne x x ≡ false → T (not (is_nan x))
-unfolding is_nan ne eq
-equal_no_nan nan e = subst T e tt
-equal_no_nan (inf s) e = tt
-equal_no_nan (fin s m e) h = tt
+-- ---- what the test for a NaN tells
+pub no_nan : (x : Float) → is_nan x ≡ false → T (not (is_nan x))
+no_nan x h = subst (λ (b : Bool). T (not b)) (sym h) tt
+
+pub the_nan : (x : Float) → is_nan x ≡ true → x ≡ nan
+unfolding is_nan
+the_nan nan h = refl
+the_nan (inf s) h = absurd (true≢false (sym h))
+the_nan (fin s m e) h = absurd (true≢false (sym h))
+
+pub nan_pattern : (x : Float) → is_nan x ≡ true → 2143289344 ≡ to_bits binary32 x
+unfolding to_bits
+nan_pattern x h = sym (ap (to_bits binary32) (the_nan x h))
 
 -- ---- reading a pattern's fields
 pub fields : (x : Float) → T (fits binary32 x)
@@ -134,3 +141,6 @@ normal x h l u = record { is = whole (to_bits binary32 x) l u (fields x h); bits
 
     whole : (b : ℕ) → 8388608 ≤ b → b < 2139095040 → x ≡ of_fields binary32 (leb 2147483648 b) (b % 2147483648 / 8388608) (b % 8388608) → x ≡ odd 24 false (b % 8388608 + 8388608) (b / 8388608 - 1) 149
     whole b l u e = at_mid x false (b / 8388608) (b % 8388608) (e ∙ ap₂ (λ (s : Bool) (i : ℕ). of_fields binary32 s i (b % 8388608)) (positive b u) (same b u)) (some b l) (finite_field b u)
+
+-- what `to_bits` of src/bits.rt uses
+pub ruleset bits_read = (no_nan, nan_pattern)

@@ -1,14 +1,15 @@
 -- The bits of a significand and its exponent, packed. Assumes nothing.
-use mathlib.Core.Path.{◌≡◌, refl, sym}
+use mathlib.Core.Path.{◌≡◌, refl, sym, ap, ◌∙◌}
 use mathlib.Core.Bool.{Bool, true, false, not, cond}
 use Prim.Native.Nat.{ℕ, ◌+◌, ◌*◌, ◌%◌, ◌^◌, ◌≤◌, ◌<◌}
-use native.Mathlib.Nat.{le_trans, le_of_eq, le_antisymm, lt_of_lt_of_le, lt_of_le_of_lt, mul-le-mul, mul-lt-mul_of_pos_right}
+use native.Mathlib.Nat.{add_comm, add_assoc, zero-add, le_trans, le_of_eq, le_antisymm, lt_of_lt_of_le, lt_of_le_of_lt, mul-le-mul, mul-lt-mul_of_pos_right}
 use native.Mathlib.Omega.{arith}
 use lib.Dec.{T, ltb, ltb→lt, nltb→le}
 use lib.Pow.{pow_pos, pow-add, pow_mono, pow-lt}
 use lib.Ieee.{binary32, units, of_bits}
 use Rattle.scalar.specs.Parts.{Packs}
 use Rattle.laws.proofs.values.ValueLaws.{packed}
+use Rattle.scalar.proofs.floats.SignLaws.{pattern_plain}
 
 infinite : (s : Bool) → of_bits binary32 (cond s 2147483648 0 + 253 * 8388608 + 16777216) ≡ units binary32 s 16777216 253
 unfolding of_bits units
@@ -40,3 +41,13 @@ plain q k P = let a = P.most in let b = P.range in omega arith
 
 pub plain_top : (q k : ℕ) → Packs q k → (k * 8388608 + q + 2147483648) % 2147483648 ≤ 2139095040
 plain_top q k P = let a = P.most in let b = P.range in omega arith
+
+-- the bits that `pack` of src/bits.rt makes, by the sign
+pub pack_minus : (s : Bool) (q k : ℕ) → Packs q k → s ≡ true → of_bits binary32 (k * 8388608 + q + 2147483648) ≡ units binary32 s q k
+pack_minus s q k P h = ap (λ (b : ℕ). of_bits binary32 b) (add_comm (k * 8388608 + q) 2147483648 ∙ sym (add_assoc 2147483648 (k * 8388608) q)) ∙ pack_is true q k P ∙ ap (λ (s : Bool). units binary32 s q k) (sym h)
+
+pub pack_plus : (s : Bool) (q k : ℕ) → Packs q k → s ≡ false → of_bits binary32 (k * 8388608 + q) ≡ units binary32 s q k
+pack_plus s q k P h = ap (λ (b : ℕ). of_bits binary32 (b + q)) (sym (zero-add (k * 8388608))) ∙ pack_is false q k P ∙ ap (λ (s : Bool). units binary32 s q k) (sym h)
+
+-- what `pack` of src/bits.rt uses
+pub ruleset packing = (plain, plain_top, pack_minus, pack_plus, pattern_plain)

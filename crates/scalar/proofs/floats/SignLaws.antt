@@ -1,15 +1,14 @@
 -- Signs and kinds of floats, by their parts and by their bits. Assumes nothing.
-use mathlib.Core.Path.{◌≡◌, refl, sym, ap, ◌∙◌, subst}
-use mathlib.Core.Bool.{Bool, true, false, not, ◌&&◌, ◌||◌, beq, cond, true≢false}
+use mathlib.Core.Path.{◌≡◌, refl, sym, ap, subst}
+use mathlib.Core.Bool.{Bool, true, false, not, cond, true≢false}
 use mathlib.Core.Logic.{inl, inr}
 use Prim.Native.Nat.{ℕ, zero, suc, ◌*◌, ◌%◌, ◌^◌, ◌<◌, ◌≤◌}
-use lib.Dec.{T, eqb, eqb_refl, lt→ltb}
+use lib.Dec.{T, lt→ltb}
 use lib.Arith.{le→nltb}
-use lib.Ieee.{Float, nan, inf, fin, Format, binary32, up, down, odd, neg, level, ne, eq, mul, div, of_bits, nan_bits, is_nan}
+use lib.Ieee.{Float, nan, inf, fin, Format, binary32, odd, neg, mul, of_bits, nan_bits, is_nan}
 use lib.Ieee.Exact.{HasValue}
 use lib.Ieee.Scale.{finite}
-use lib.Ieee.Bits.{nan_bits_is, nan_bits_above, is_true}
-use lib.Ieee.Compare.{differs_from_itself}
+use lib.Ieee.Bits.{nan_bits_is, nan_bits_above}
 use Rattle.laws.specs.Exact.{negative}
 use Rattle.scalar.specs.Sign.{abs, copysign, signum, one}
 use Rattle.scalar.proofs.floats.PartsLaws.{Other, value_of_parts}
@@ -64,9 +63,10 @@ pub copy : (x y : Float) (b : Bool) → negative y ≡ b → copysign x y ≡ co
 unfolding copysign
 copy x y b h = ap (λ (c : Bool). cond c (neg (abs x)) (abs x)) h
 
-pub zero_by_zero : nan ≡ div binary32 (of_bits binary32 0) (of_bits binary32 0)
-unfolding div of_bits
-zero_by_zero = refl
+-- the bits of f32::NAN
+pub nan_constant : of_bits binary32 2143289344 ≡ nan
+unfolding of_bits
+nan_constant = refl
 
 pub pattern_nan : (b : ℕ) → 2139095040 < b % 2147483648 → of_bits binary32 b ≡ nan
 pattern_nan b h = is_nan_lem (of_bits binary32 b) (subst T (nan_bits_is binary32 b) (subst T (sym (nan_bits_above binary32 b)) (lt→ltb 2139095040 (b % 2147483648) h)))
@@ -79,31 +79,19 @@ pattern_nan b h = is_nan_lem (of_bits binary32 b) (subst T (nan_bits_is binary32
 pub pattern_plain : (b : ℕ) → b % 2147483648 ≤ 2139095040 → T (not (nan_bits binary32 b))
 pattern_plain b h = subst (λ (c : Bool). T (not c)) (sym (nan_bits_above binary32 b)) (le→nltb 2139095040 (b % 2147483648) h)
 
-pub sign_of_nan : (x : Float) → ne x x ≡ true → x ≡ signum x
-unfolding signum
-sign_of_nan x h = let e = differs_from_itself x (subst T (sym h) tt) in e ∙ sym (ap signum e)
+pub sign_of_nan : (x : Float) → is_nan x ≡ true → x ≡ signum x
+unfolding signum is_nan
+sign_of_nan nan h = refl
+sign_of_nan (inf s) h = absurd (true≢false (sym h))
+sign_of_nan (fin s m e) h = absurd (true≢false (sym h))
 
-pub sign_of_other : (x : Float) → ne x x ≡ false → copysign one x ≡ signum x
-unfolding signum ne eq
+pub sign_of_other : (x : Float) → is_nan x ≡ false → copysign one x ≡ signum x
+unfolding signum is_nan
 sign_of_other nan h = absurd (true≢false h)
 sign_of_other (inf s) h = refl
 sign_of_other (fin s m e) h = refl
 
 -- ---- kinds
-pub nan_differs : (x : Float) → ne x x ≡ is_nan x
-unfolding ne eq is_nan
-nan_differs nan = refl
-nan_differs (inf true) = refl
-nan_differs (inf false) = refl
-nan_differs (fin s m e) = ap not (level_self s (m * up e * down e))
-  where
-    level_self : (s : Bool) (n : ℕ) → level s n s n ≡ true
-    level_self s n = ap (λ (b : Bool). b && (beq s s || eqb n 0)) (is_true (eqb n n) (eqb_refl n)) ∙ same s (eqb n 0)
-      where
-        same : (s b : Bool) → true && (beq s s || b) ≡ true
-        same true b = refl
-        same false b = refl
-
 pub other_infinite : (x : Float) → Other x → false ≡ finite x
 other_infinite x (inl e) = sym (ap finite e)
 other_infinite x (inr p) = sym (ap finite p.1)
@@ -115,3 +103,15 @@ parts_finite x s q k e = value_finite x s (q * 2 ^ k) (2 ^ 149) (value_of_parts 
     value_finite nan s a c h = absurd h
     value_finite (inf t) s a c h = absurd h
     value_finite (fin t m e) s a c h = refl
+
+-- what `from_bits` of src/bits.rt uses
+pub ruleset patterns = (pattern_nan, pattern_plain, nan_constant)
+
+-- what `is_sign_negative` of src/sign.rt uses
+pub ruleset negatives = (sign_nan, sign_inf, sign_odd)
+
+-- what `signum` of src/sign.rt uses
+pub ruleset signums = (sign_of_nan, sign_of_other)
+
+-- what `abs` of src/sign.rt uses
+pub ruleset sizes = (abs_neg, abs_pos)

@@ -2,7 +2,7 @@
 use mathlib.Core.Path.{◌≡◌, refl, sym, ap, ap₂, ◌∙◌, subst}
 use mathlib.Core.Bool.{Bool, true, false, not}
 use mathlib.Core.Logic.{◌⊎◌, inl, inr}
-use Prim.Native.Nat.{ℕ, ◌+◌, ◌-◌, ◌*◌, ◌/◌, ◌%◌, ◌^◌, ◌≤◌, ◌<◌, compare, Ordering}
+use Prim.Native.Nat.{ℕ, ◌+◌, ◌-◌, ◌*◌, ◌/◌, ◌%◌, ◌^◌, ◌≤◌, ◌<◌, max, compare, Ordering}
 use native.Mathlib.Nat.{le_of_eq, le_of_lt, lt_of_lt_of_le, lt_of_le_of_lt, mul-one, mul_comm, mul_assoc, add-mul, mul-le-mul_right, mul-lt-mul_of_pos_right}
 use native.Mathlib.Omega.{arith}
 use lib.Dec.{T, leb, leb→le, nleb→lt, lit<}
@@ -145,7 +145,7 @@ module _ (s t : Bool) (x l d u : ℕ) (U : d ≤ u) (X : x % 16384 ≡ 0) (L : l
 sticky_one : (n e : ℕ) → e ≡ 0 → sticky n (2 ^ e) ≡ n
 sticky_one n e h = ap (λ (x : ℕ). sticky n (2 ^ x)) h ∙ subst (λ (x : ℕ). sticky x 1 ≡ n) (mul-one n) (sticky_exact n 1 (lit< tt))
 
-module _ (s t : Bool) (x i y j e : ℕ) (H : Terms x i y j) (E : e ≡ i + (j - i)) where
+module _ (s t : Bool) (x i y j e : ℕ) (H : Terms x i y j) (E : e ≡ max i j) where
   pub aligned_sum : sum binary32 s (sticky x (2 ^ (e - i)) * 2 ^ e) t (sticky y (2 ^ (e - j)) * 2 ^ e) (2 ^ 426) ≡ sum binary32 s (x * 2 ^ i) t (y * 2 ^ j) (2 ^ 426)
   aligned_sum = go (leb i j) (leb→le i j) (nleb→lt i j)
     where
@@ -183,3 +183,6 @@ module _ (s t : Bool) (x i y j e : ℕ) (H : Terms x i y j) (E : e ≡ i + (j - 
     where
       fit : (n d : ℕ) → n < 2 ^ 62 → sticky n (2 ^ d) < 2 ^ 63
       fit n d h = sticky_below n (2 ^ d) (pow_pos d) (2 ^ 62) (let p = pow_pos d in omega arith)
+
+-- what `aligned` of src/fused.rt uses
+pub ruleset aligns = (aligned_sum, aligned_fit)

@@ -22,7 +22,7 @@ use Rattle.scalar.specs.Fused.{fused_multiply_add}
 use Rattle.scalar.specs.Parts.{Split, Decoded}
 use Rattle.scalar.specs.FusedParts.{Plain, Normal, Terms}
 use Rattle.scalar.specs.declared.bits.Parts.TheVariants.{Fin}
-use Rattle.scalar.proofs.floats.PartsLaws.{Other, value_of_parts}
+use Rattle.scalar.proofs.floats.PartsLaws.{Other, other, value_of_parts}
 use Rattle.scalar.proofs.roots.RootPartsLaws.{zeros_in}
 use Rattle.scalar.proofs.products.FusedSum.{fused_at}
 
@@ -88,9 +88,6 @@ product_in m n a b c d = (mul-le-mul a c, lt_of_le_of_lt (mul-le-mul (under m b)
 module _ (x y z : Float) (s t u : Bool) (m k n d q g : ℕ) (M : Normal x s m k) (N : Normal y t n d) (K : Decoded (Fin u q g) z) where
   p_in : (2 ^ 46 ≤ m * n) × (m * n < 2 ^ 48)
   p_in = product_in m n M.low M.high N.low N.high
-
-  pub product_fits : m * n < 18446744073709551616
-  product_fits = lt_of_lt_of_le p_in.1 (lit≤ tt)
 
   p_word : m * n * 16384 % 18446744073709551616 ≡ m * n * 16384
   p_word = let b = p_in in mod-eq_of_lt (omega arith)
@@ -176,3 +173,8 @@ other_term (fin a m e) nan z s t p q h k o = absurd k
 other_term (fin a m e) (inf b) z s t p q h k o = absurd k
 other_term (fin a m e) (fin b n d) z s t p q h k (inl o) = o ∙ sym (ap (λ (w : Float). fused_multiply_add (fin a m e) (fin b n d) w) o)
 other_term (fin a m e) (fin b n d) z s t p q h k (inr o) = o.1 ∙ sym (ap (λ (w : Float). fused_multiply_add (fin a m e) (fin b n d) w) o.1)
+
+-- what `factor_of` and `mul_add` of src/fused.rt use
+pub ruleset factors = (plain_zero, factor_full, factor_short, zeros_left)
+
+pub ruleset multiply_adds = (other, plain_first, plain_second, other_term, number_sum)

@@ -1,10 +1,10 @@
 -- What shifts of 64-bit words compute: a quotient with a sticky bit, a rounded quotient, a normalized number. Assumes nothing.
 use mathlib.Core.Path.{◌≡◌, sym, ap, ◌∙◌, subst}
-use mathlib.Core.Logic.{◌⊎◌, inl, inr}
-use Prim.Native.Nat.{ℕ, ◌+◌, ◌-◌, ◌*◌, ◌/◌, ◌%◌, ◌^◌, ◌≤◌, ◌<◌, compare}
-use native.Mathlib.Nat.{add-zero, one-mul, mul-one, mul-le-mul_left, mod-eq_of_lt, div-mul-le_self, le_trans, le_of_eq, lt_of_lt_of_le, lt_of_le_of_lt, mul_assoc, div-lt_iff_lt-mul}
+use mathlib.Core.Bool.{Bool, true, false, not}
+use Prim.Native.Nat.{ℕ, ◌+◌, ◌-◌, ◌*◌, ◌/◌, ◌%◌, ◌^◌, ◌≤◌, ◌<◌, min, compare}
+use native.Mathlib.Nat.{add-zero, one-mul, mul-one, mul-le-mul_left, mod-eq_of_lt, div-mul-le_self, le_of_lt, le_trans, le_of_eq, lt_of_lt_of_le, lt_of_le_of_lt, mul_assoc, div-lt_iff_lt-mul}
 use native.Mathlib.Omega.{arith}
-use lib.Dec.{lit≤, lit<}
+use lib.Dec.{T, leb, leb→le, nleb→lt, lit≤, lit<}
 use lib.Pow.{pow_pos, pow-add, pow_mono}
 use lib.Count.{count_leading_zeros}
 use lib.Ieee.Fits.{nearest-le}
@@ -16,12 +16,18 @@ use Rattle.laws.proofs.rounding.StickyLaws.{sticky_below, sticky_far, sticky_exa
 use Rattle.scalar.specs.FusedParts.{Normalized}
 
 -- ---- shifted right
-pub shift_within : (v d c : ℕ) → v < 18446744073709551616 → ((d < 63) × (c ≡ d)) ⊎ ((63 ≤ d) × (c ≡ 63)) → (c < 64) × (sticky v (2 ^ c) ≡ sticky v (2 ^ d))
-shift_within v d c h (inl p) = (omega arith, ap (λ (n : ℕ). sticky v (2 ^ n)) p.1)
-shift_within v d c h (inr p) = (
-  omega arith,
-  ap (λ (n : ℕ). sticky v (2 ^ n)) p.1 ∙ sticky_far v (2 ^ 63) (2 ^ d) h (lt_of_lt_of_le h (mul-le-mul_left 2 (pow_mono p.0))),
-)
+pub shift_within : (v d c : ℕ) → v < 18446744073709551616 → c ≡ min d 63 → sticky v (2 ^ c) ≡ sticky v (2 ^ d)
+shift_within v d c h e = go (leb d 63) (leb→le d 63) (nleb→lt d 63)
+  where
+    go : (b : Bool) → (T b → d ≤ 63) → (T (not b) → 63 < d) → sticky v (2 ^ c) ≡ sticky v (2 ^ d)
+    go true f g =
+        let l = f tt in
+        let same : c ≡ d = omega arith in
+        ap (λ (n : ℕ). sticky v (2 ^ n)) same
+    go false f g =
+        let l = g tt in
+        let cut : c ≡ 63 = omega arith in
+        ap (λ (n : ℕ). sticky v (2 ^ n)) cut ∙ sticky_far v (2 ^ 63) (2 ^ d) h (lt_of_lt_of_le h (mul-le-mul_left 2 (pow_mono (le_of_lt l))))
 
 pub truncated_word : (v b : ℕ) → v < 18446744073709551616 → v / b * b % 18446744073709551616 ≡ v / b * b
 truncated_word v b h = mod-eq_of_lt (lt_of_le_of_lt (div-mul-le_self v b) h)
@@ -83,3 +89,9 @@ module _ (v : ℕ) (P : 0 < v) (W : v < 2 ^ 64) where
     where
       back : count_leading_zeros 64 v - 1 + 1 ≡ count_leading_zeros 64 v
       back = omega arith
+
+-- what `nearest` of src/round_pack.rt uses
+pub ruleset carries = (half_word, half_in, carried, quotient_fits)
+
+-- what `normalized` of src/round_pack.rt uses
+pub ruleset normalizes = (normalized_full, normalized_shifted)

@@ -1,11 +1,8 @@
 -- The whole root of a number with four bits more: a digit of base 4 more. Assumes nothing.
 use mathlib.Core.Path.{◌≡◌, sym, ap, ◌∙◌, subst}
-use mathlib.Core.Bool.{Bool, cond}
-use Prim.Native.Nat.{ℕ, zero, suc, ◌+◌, ◌-◌, ◌*◌, ◌/◌, ◌^◌, ◌≤◌, ◌<◌}
-use native.Mathlib.Nat.{lt_of_le_of_lt, mul-le-mul, div-div-eq-div-mul, div-eq_of_lt}
+use Prim.Native.Nat.{ℕ, ◌+◌, ◌-◌, ◌*◌, ◌/◌, ◌^◌, ◌≤◌, ◌<◌}
+use native.Mathlib.Nat.{lt_of_le_of_lt, div-le_self, div-div-eq-div-mul, div-eq_of_lt}
 use native.Mathlib.Omega.{arith}
-use borrow.Author.Tests.{le-leb, lt-leb}
-use lib.Dec.{lit<}
 use lib.Pow.{pow-add}
 use Rattle.laws.specs.WholeRoot.{WholeRoot, grown}
 use Rattle.laws.proofs.numbers.WholeRootLaws.{even_square, bit_one, bit_zero, grown_is, root_lt}
@@ -30,30 +27,28 @@ module _ (m s : ℕ) (w : WholeRoot (m / 16) s) where
       same : 2 * (2 * s) ≡ 4 * s
       same = omega arith
 
--- ---- r, or the next number: the definition's test is the code's
-pub grows : (r m : ℕ) → (r + 1) * (r + 1) ≤ m → r + 1 ≡ grown r m
-grows r m h = ap (λ (b : Bool). cond b (r + 1) r) (sym (le-leb ((r + 1) * (r + 1)) m h))
-
-pub stays : (r m : ℕ) → m < (r + 1) * (r + 1) → r ≡ grown r m
-stays r m h = ap (λ (b : Bool). cond b (r + 1) r) (sym (lt-leb ((r + 1) * (r + 1)) m h))
-
--- ---- squares fit into a word
-pub root_few : (m s : ℕ) → m < 2 ^ 48 → WholeRoot (m / 16) s → s < 2 ^ 22
+-- ---- a root has few bits
+root_few : (m s : ℕ) → m < 2 ^ 48 → WholeRoot (m / 16) s → s < 2 ^ 22
 root_few m s h w = root_lt (m / 16) s 4194304 w (omega arith)
-
-pub square_fits : (r : ℕ) → r ≤ 2 ^ 25 → r * r < 2 ^ 64
-square_fits r h = lt_of_le_of_lt (mul-le-mul h h) (lit< tt)
 
 -- ---- no bit of n yet, four bits more, and all
 pub no_bits : (n : ℕ) → n < 2 ^ 48 → WholeRoot (n / 2 ^ 48) 0
 no_bits n h = subst (λ (m : ℕ). WholeRoot m 0) (sym (div-eq_of_lt h)) (record { below = omega arith; above = omega arith })
 
-pub four_bits : (n s k : ℕ) → 4 ≤ k → WholeRoot (n / 2 ^ k) s → WholeRoot (n / 2 ^ (k - 4) / 16) s
-four_bits n s k h w = subst (λ (m : ℕ). WholeRoot m s) (ap (λ (i : ℕ). n / 2 ^ i) (sum k h) ∙ ap (λ (v : ℕ). n / v) (pow-add 2 (k - 4) 4) ∙ sym (div-div-eq-div-mul n (2 ^ (k - 4)) 16)) w
+pub four_bits : (n s i : ℕ) → n < 2 ^ 48 → i < 12 → WholeRoot (n / 2 ^ (48 - 4 * i)) s → (s < 2 ^ 22) × WholeRoot (n / 2 ^ (44 - 4 * i) / 16) s
+four_bits n s i l h w = (root_few _ _ (lt_of_le_of_lt (div-le_self _ _) l) (next n s i h w), next n s i h w)
   where
-    sum : (k : ℕ) → 4 ≤ k → k ≡ k - 4 + 4
-    sum k h = omega arith
+    sum : (i : ℕ) → i < 12 → 48 - 4 * i ≡ 44 - 4 * i + 4
+    sum i h = omega arith
 
-pub all_bits : (n s k : ℕ) → k ≤ 0 → WholeRoot (n / 2 ^ k) s → WholeRoot n s
-all_bits n s zero h w = subst (λ (m : ℕ). WholeRoot m s) (omega arith) w
-all_bits n s (suc k) h w = absurd (omega arith)
+    next : (n s i : ℕ) → i < 12 → WholeRoot (n / 2 ^ (48 - 4 * i)) s → WholeRoot (n / 2 ^ (44 - 4 * i) / 16) s
+    next n s i h w = subst (λ (m : ℕ). WholeRoot m s) (ap (λ (k : ℕ). n / 2 ^ k) (sum i h) ∙ ap (λ (v : ℕ). n / v) (pow-add 2 (44 - 4 * i) 4) ∙ sym (div-div-eq-div-mul n (2 ^ (44 - 4 * i)) 16)) w
+
+pub all_bits : (n s i : ℕ) → 12 ≤ i → WholeRoot (n / 2 ^ (48 - 4 * i)) s → WholeRoot n s
+all_bits n s i h w = subst (λ (m : ℕ). WholeRoot m s) (ap (λ (k : ℕ). n / 2 ^ k) (none i h) ∙ whole n) w
+  where
+    none : (i : ℕ) → 12 ≤ i → 48 - 4 * i ≡ 0
+    none i h = omega arith
+
+    whole : (n : ℕ) → n / 1 ≡ n
+    whole n = omega arith

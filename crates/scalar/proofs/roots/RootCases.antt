@@ -6,17 +6,22 @@ use native.Mathlib.Nat.{lt_irrefl, mul-pos, mul-div_cancel}
 use lib.Dec.{T, eqb, eqb→eq}
 use lib.IntN.{ℤ, pos}
 use lib.Pow.{pow_pos}
-use lib.Ieee.{Float, nan, inf, fin, binary32, up, down, odd}
+use lib.Ieee.{Float, nan, inf, fin, binary32, up, down, odd, is_nan}
 use lib.Ieee.Exact.{HasValue}
 use lib.Ieee.Fits.{down_pos}
 use lib.Ieee.Positive.{first_pos}
 use Rattle.laws.specs.Exact.{size_in}
 use Rattle.scalar.specs.Root.{root, root_units}
+use Rattle.scalar.proofs.floats.BitsLaws.{the_nan}
 use Rattle.scalar.proofs.floats.PartsLaws.{value_of_parts}
+use Rattle.scalar.proofs.floats.SignLaws.{nan_constant}
 
 pub root_nan : (x : Float) → x ≡ nan → x ≡ root x
 unfolding root
 root_nan x e = e ∙ sym (ap root e)
+
+pub root_of_nan : (x : Float) → is_nan x ≡ true → x ≡ root x
+root_of_nan x h = root_nan x (the_nan x h)
 
 pub root_inf : (x : Float) (s : Bool) → x ≡ inf s → s ≡ false → x ≡ root x
 unfolding root
@@ -58,3 +63,6 @@ root_negative x s q k e h t = sym (root_some x s q k e h ∙ ap (λ (b : Bool). 
 
 pub root_positive : (x : Float) (s : Bool) (q k : ℕ) → x ≡ odd 24 s q k 149 → 0 < q → s ≡ false → root_units (q * 2 ^ k) ≡ root x
 root_positive x s q k e h t = sym (root_some x s q k e h ∙ ap (λ (b : Bool). cond b nan (root_units (q * 2 ^ k))) t)
+
+-- what `other_root` of src/root.rt uses
+pub ruleset root_cases = (nan_constant, root_nan, root_inf, root_neg_inf, root_zero, root_negative, root_positive)

@@ -17,6 +17,8 @@ use Rattle.scalar.specs.RootParts.{Positive, Shift, NearRoot}
 use Rattle.laws.proofs.numbers.WholeRootLaws.{root_lt, root_ge, next_square, odd_square, whole_root_is}
 use Rattle.scalar.proofs.floats.PartsLaws.{parts_under}
 use Rattle.scalar.proofs.roots.RootLaws.{root_rounded}
+use Rattle.scalar.proofs.roots.RootCases.{root_of_nan, root_positive}
+use Rattle.scalar.proofs.floats.BitsLaws.{no_nan, normal}
 
 -- ---- the shift: q has j + 1 bits, and 31 - j leading zeros in a word of 32
 abbrev Leading : ℕ → ℕ → Type 0
@@ -153,3 +155,6 @@ shifted_root q k a some under S =
 
     small : (near.0 + 1) * 2 ^ half k a < 2 ^ 277
     small = lt_of_le_of_lt (mul-le-mul_right (2 ^ half k a) near.1.most) (lt_of_le_of_lt (le_of_eq (sym (pow-add 2 24 (half k a)))) (pow-lt (less k a short S.least)))
+
+-- what `sqrt` of src/root.rt uses
+pub ruleset normal_roots = (no_nan, normal, root_of_nan, root_positive, shift_normal)

@@ -7,7 +7,7 @@ use native.Mathlib.Nat.{le_trans, le_of_eq, le_of_lt, lt_of_lt_of_le, lt_of_le_o
 use native.Mathlib.Omega.{arith}
 use lib.Dec.{T, lit≤, lit<}
 use lib.Pow.{pow_pos, pow-add, pow-lt, pow_mono}
-use lib.Ieee.{Float, nan, inf, fin, binary32, up, down, unlike, odd, units, round, mul, fits}
+use lib.Ieee.{Float, nan, inf, fin, binary32, up, down, unlike, odd, units, round, mul, fits, of_bits}
 use lib.Ieee.Bits.{of_bits-fits}
 use lib.Ieee.Exact.{units_val, round_exact}
 use lib.Ieee.Fits.{down_pos, round-fits}
@@ -21,7 +21,7 @@ use Rattle.laws.proofs.operations.OperationLaws.{mul_at}
 use Rattle.laws.proofs.rounding.ErrorLaws.{rounded_none, rounded_value}
 use Rattle.scalar.specs.Parts.{Split, Packs}
 use Rattle.scalar.specs.Powers.{times_power, power_of_two}
-use Rattle.scalar.proofs.floats.PartsLaws.{Other, value_of_parts, parts_under}
+use Rattle.scalar.proofs.floats.PartsLaws.{Other, other, value_of_parts, parts_under}
 use Rattle.scalar.proofs.floats.PackLaws.{pack_is}
 use Rattle.scalar.proofs.products.RoundPackLaws.{round_zero}
 
@@ -125,6 +125,14 @@ pub power_of_one : (j : ℕ) (one : Float) → Value binary32 one false (2 ^ 149
 unfolding power_of_two
 power_of_one j one v = power_at j one false (2 ^ 149) v
 
+-- 1 is 2 ^ 149 smallest values
+one_is : Value binary32 (of_bits binary32 0x3f800000) false (2 ^ 149)
+unfolding of_bits
+one_is = (refl, refl)
+
+pub power_of_one_bits : (j : ℕ) → times_power j (of_bits binary32 0x3f800000) ≡ power_of_two j
+power_of_one_bits j = power_of_one j (of_bits binary32 0x3f800000) one_is
+
 -- an f32 of 2 ^ (298 - j) smallest values
 module _ (j : ℕ) (lo : 22 ≤ j) (hi : j ≤ 298) where
   under : 2 ^ (298 - j) < 2 ^ 277
@@ -190,3 +198,9 @@ module _ (j : ℕ) (lo : 275 < j) where
 
   pub power_subnormal : j ≤ 298 → units binary32 false (1 * 2 ^ (298 - j) % 4294967296) 0 ≡ power_of_two j
   power_subnormal hi = power_packed j (1 * 2 ^ (298 - j) % 4294967296) 0 (omega arith) hi subnormal_packs (mul-one (1 * 2 ^ (298 - j) % 4294967296) ∙ shifted)
+
+-- what `times_power` of src/powers.rt uses
+pub ruleset products = (other, power_other, power_none, power_rounded)
+
+-- and `power_of_two`
+pub ruleset powers = (power_of_one_bits, power_normal, subnormal_packs, power_subnormal)

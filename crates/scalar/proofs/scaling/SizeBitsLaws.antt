@@ -1,7 +1,7 @@
 -- The bits of a size: they tell whether the number is finite, and the size. Assumes nothing.
 use mathlib.Core.Path.{◌≡◌, refl, sym, ap, ap₂, ◌∙◌, subst}
 use mathlib.Core.Bool.{Bool, true, false, not, cond}
-use Prim.Native.Nat.{ℕ, zero, suc, ◌+◌, ◌-◌, ◌*◌, ◌/◌, ◌%◌, ◌^◌, ◌≤◌, ◌<◌}
+use Prim.Native.Nat.{ℕ, zero, suc, ◌+◌, ◌-◌, ◌*◌, ◌/◌, ◌%◌, ◌^◌, ◌≤◌, ◌<◌, max}
 use native.Mathlib.Nat.{le_trans, le_of_eq, lt_of_lt_of_le, lt_of_le_of_lt, le_of_lt, mul-one, mul-le-mul_right}
 use native.Mathlib.Omega.{arith}
 use lib.Dec.{T, leb, ltb, leb→le, nleb→lt, lt→ltb, lit≤, lit<}
@@ -40,11 +40,11 @@ by_zeros (suc b) h =
     sums z j n e d = omega arith
 
 -- 1 has the binary logarithm that 0 is given
-one_for_zero : (b : ℕ) → b < 4294967296 → 31 - count_leading_zeros 32 (larger b 1) ≡ log2 b
+one_for_zero : (b : ℕ) → b < 4294967296 → 31 - count_leading_zeros 32 (max b 1) ≡ log2 b
 one_for_zero zero h = by_zeros 1 (lit≤ tt) ∙ (unfold size in refl)
 one_for_zero (suc b) h = ap (λ (n : ℕ). 31 - count_leading_zeros 32 n) (same b) ∙ by_zeros (suc b) h
   where
-    same : (b : ℕ) → larger (suc b) 1 ≡ suc b
+    same : (b : ℕ) → max (suc b) 1 ≡ suc b
     same b = omega arith
 
 -- ---- the size with the bits b
@@ -57,7 +57,7 @@ module _ (b : ℕ) where
   unfolding size_of_bits
   normal_size h = cond_no (ltb b 8388608) b ((b % 8388608 + 8388608) * 2 ^ (b / 8388608 - 1)) (le→nltb b 8388608 h)
 
-  pub log2_subnormal : b < 8388608 → 31 - count_leading_zeros 32 (larger b 1) ≡ log2 (size_of_bits b)
+  pub log2_subnormal : b < 8388608 → 31 - count_leading_zeros 32 (max b 1) ≡ log2 (size_of_bits b)
   log2_subnormal h = one_for_zero b (lt_of_lt_of_le h (lit≤ tt)) ∙ ap log2 (sym (subnormal_size h))
 
   pub log2_normal : 8388608 ≤ b → b / 8388608 + 22 ≡ log2 (size_of_bits b)
@@ -203,3 +203,6 @@ module _ (x y z : Float) where
 
         by_size : (m n : ℕ) → log2 (larger m n) ≡ larger (log2 m) (log2 n)
         by_size m n = larger_by log2 log2_mono m n
+
+-- what `log2_of_bits` of src/powers.rt uses
+pub ruleset log2_cases = (log2_normal, log2_subnormal)

