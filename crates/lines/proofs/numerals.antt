@@ -7,3 +7,4 @@ pub mod PackedDigitLaws
 pub mod TenDigitLaws
 pub mod RoundTripLaws
 pub mod FieldMeaningLaws
+pub mod EightDigitLaws

@@ -1,12 +1,10 @@
 -- What functions of this crate promise each other: a number up to the limit, a field written into a line, a test as a number, and the value of a byte.
-use Rattle.std.specs.Prelude.{◌≡◌, ℕ, ◌+◌, ◌<◌, ◌≤◌, Bool, false, cond, List, ◌++◌, take, drop, nat_le}
-use Rattle.lines.specs.declared.field.Reading.{Reading}
-use Rattle.lines.specs.declared.field.Reading.TheVariants.{Value, Ill}
+use Rattle.std.specs.Prelude.{◌≡◌, ℕ, ◌+◌, ◌<◌, ◌≤◌, Bool, false, cond, List, ◌++◌, take, drop, nat_le, Option, None, Some}
 use Rattle.lines.specs.Field.{is_digit, limit, written}
 
 -- a number up to the limit
-unfoldable pub limited : ℕ → Reading
-limited n = cond (nat_le n limit) (Value n) Ill
+unfoldable pub limited : ℕ → Option ℕ
+limited n = cond (nat_le n limit) (Some n) None
 
 -- the bytes after n is written into the w columns from `at` on
 unfoldable pub put_field : ℕ → ℕ → ℕ → List ℕ → List ℕ

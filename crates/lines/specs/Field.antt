@@ -1,7 +1,5 @@
 -- One field (document 01, "Lines"): "A field is blanks, then decimal digits to its right edge, at least one, no leading zero but in 0 alone."
-use Rattle.std.specs.Prelude.{ℕ, zero, suc, ◌+◌, ◌-◌, ◌*◌, ◌/◌, ◌%◌, Bool, true, cond, ◌&&◌, List, [], ◌∷◌, ◌++◌, length, ◌==◌, nat_le, nat_lt, slice_index}
-use Rattle.lines.specs.declared.field.Reading.{Reading}
-use Rattle.lines.specs.declared.field.Reading.TheVariants.{Value, Ill}
+use Rattle.std.specs.Prelude.{ℕ, zero, suc, ◌+◌, ◌-◌, ◌*◌, ◌/◌, ◌%◌, Bool, true, cond, ◌&&◌, List, [], ◌∷◌, ◌++◌, length, ◌==◌, nat_le, nat_lt, slice_index, Option, None, Some}
 
 -- "A blank is the byte 32."
 abbrev pub blank : ℕ
@@ -32,16 +30,16 @@ abbrev pub limit : ℕ
 limit = 4294967295
 
 -- decimal digits of a number up to the limit
-unfoldable pub value : List ℕ → Reading
-value l = cond (decimal l) (cond (nat_le (value_from 0 l) limit) (Value (value_from 0 l)) Ill) Ill
+unfoldable pub value : List ℕ → Option ℕ
+value l = cond (decimal l) (cond (nat_le (value_from 0 l) limit) (Some (value_from 0 l)) None) None
 
 -- a zero with digits after it
 unfoldable pub leading_zero : List ℕ → Bool
 leading_zero l = nat_lt 1 (length l) && slice_index l 0 == 48
 
 -- "decimal digits [..], at least one, no leading zero but in 0 alone"
-unfoldable pub number : List ℕ → Reading
-number l = cond (length l == 0) Ill (cond (leading_zero l) Ill (value l))
+unfoldable pub number : List ℕ → Option ℕ
+number l = cond (length l == 0) None (cond (leading_zero l) None (value l))
 
 -- ---- a number written
 

@@ -1,6 +1,5 @@
 -- What the definitions of Field mean: document 01's sentence about fields as a statement over bytes, and that writing and reading undo each other.
-use Rattle.std.specs.Prelude.{◌≡◌, ℕ, ◌^◌, ◌<◌, ◌≤◌, true, ◌↔◌, List, ◌++◌, length, replicate, slice_index_or}
-use Rattle.lines.specs.declared.field.Reading.TheVariants.{Value}
+use Rattle.std.specs.Prelude.{◌≡◌, ℕ, ◌^◌, ◌<◌, ◌≤◌, true, ◌↔◌, List, ◌++◌, length, replicate, slice_index_or, Some}
 use Rattle.lines.specs.Field.{blank, digits, decimal, value_from, number, written}
 
 -- "decimal digits [..], at least one, no leading zero but in 0 alone"
@@ -20,7 +19,7 @@ pub record IsField (l : List ℕ) (n : ℕ) : Type 0 where
 
 -- a field gives a number exactly if it is a field of that number
 abbrev pub ReadsFields : Type 0
-ReadsFields = (l : List ℕ) (n : ℕ) → (number (digits l) ≡ Value n) ↔ IsField l n
+ReadsFields = (l : List ℕ) (n : ℕ) → (number (digits l) ≡ Some n) ↔ IsField l n
 
 -- n has room in w columns
 pub record HasRoom (w n : ℕ) : Type 0 where
@@ -30,8 +29,8 @@ pub record HasRoom (w n : ℕ) : Type 0 where
 
 -- reading a written field gives the number back, whatever the width
 abbrev pub ReadBack : Type 0
-ReadBack = (w n : ℕ) → HasRoom w n → number (digits (written w n)) ≡ Value n
+ReadBack = (w n : ℕ) → HasRoom w n → number (digits (written w n)) ≡ Some n
 
 -- writing the number that a field gives gives its bytes back
 abbrev pub WrittenBack : Type 0
-WrittenBack = (l : List ℕ) (n : ℕ) → number (digits l) ≡ Value n → written (length l) n ≡ l
+WrittenBack = (l : List ℕ) (n : ℕ) → number (digits l) ≡ Some n → written (length l) n ≡ l

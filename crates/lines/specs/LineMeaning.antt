@@ -1,6 +1,5 @@
 -- What the definitions of CommandLine and AnswerLine mean: lengths, no line feed inside, and that writing and reading undo each other.
-use Rattle.std.specs.Prelude.{◌≡◌, ℕ, List, [], ◌∷◌, length, ◌≢◌}
-use Rattle.std.proofs.Math.Option.{some}
+use Rattle.std.specs.Prelude.{◌≡◌, ℕ, List, [], ◌∷◌, length, ◌≢◌, Some}
 use Rattle.lines.specs.FieldMeaning.{HasRoom}
 use Rattle.lines.specs.Columns.{text}
 use Rattle.lines.specs.CommandLine.{widths, numbers}
@@ -13,7 +12,7 @@ NoLineFeed (b ∷ l) = (b ≢ 10) × NoLineFeed l
 
 -- so a line that gives seven numbers ends at the first line feed after it
 abbrev pub WellFormedWhole : Type 0
-WellFormedWhole = (l ns : List ℕ) → numbers l ≡ some ns → NoLineFeed l
+WellFormedWhole = (l ns : List ℕ) → numbers l ≡ Some ns → NoLineFeed l
 
 -- each number has room in its field
 unfoldable pub AllRoom : List ℕ → List ℕ → Type 0
@@ -24,10 +23,10 @@ AllRoom (w ∷ ws) [] = ⊥
 
 -- seven numbers written as a command line are read back, and a well formed line is its numbers written
 abbrev pub LineReadBack : Type 0
-LineReadBack = (ns : List ℕ) → AllRoom widths ns → numbers (text widths ns) ≡ some ns
+LineReadBack = (ns : List ℕ) → AllRoom widths ns → numbers (text widths ns) ≡ Some ns
 
 abbrev pub LineWrittenBack : Type 0
-LineWrittenBack = (l ns : List ℕ) → numbers l ≡ some ns → text widths ns ≡ l
+LineWrittenBack = (l ns : List ℕ) → numbers l ≡ Some ns → text widths ns ≡ l
 
 -- "An answer line is 42 bytes and a line feed"
 abbrev pub AnswerLength : Type 0

@@ -9,6 +9,7 @@ use crate::field::put_number;
 pub const ANSWER_LENGTH: usize = 43;
 
 // Writes the six numbers as an answer line over the first 43 bytes of out; where fewer are lent, writes nothing.
+// Six numbers, and no array: `answer_into` and `answer_line` name each of them.
 #[tactic(auto, using(crate::proofs::columns::AnswerLineLaws::put_line, crate::proofs::columns::AnswerLineLaws::put_none))]
 pub fn put_six(out: &mut [u8], refusal: u32, row: u32, kind: u32, x: u32, y: u32, z: u32)
     ensures { out.new ≡ AnswerLine.answer_into refusal row kind x y z out.old }

@@ -36,6 +36,7 @@ fn two_digits(p: u64) -> u64
 }
 
 // The digits of a number below 10^8 as bytes: it is cut into two numbers of four digits, these into four of two, and these into digits.
+#[tactic(auto, using(crate::proofs::numerals::EightDigitLaws::hundreds_fit, crate::proofs::numerals::EightDigitLaws::twos_few, crate::proofs::numerals::EightDigitLaws::tens_fit, crate::proofs::numerals::EightDigitLaws::digits_fit, crate::proofs::numerals::EightDigitLaws::digits_are_told))]
 fn eight_digits(n: u64) -> u64
     requires { n < 100000000 }
     ensures { result ≡ eight_digits n }
@@ -49,6 +50,7 @@ fn eight_digits(n: u64) -> u64
 
 // Both halves of a number, below 10000, divided by 100: 10486 / 2 ^ 20 is just above a hundredth. What the quotient has in the lower half from the upper one
 // is a multiple of 128 (PackedDigitLaws.hundreds_are).
+// Not one function with tens_of: it would take the factor, the shift, the width and the mask of each.
 fn hundreds_of(x: u64) -> u64
     requires { x < 10000 * 2 ^ 32 }
     ensures { Hundreds x result }

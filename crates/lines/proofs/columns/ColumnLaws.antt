@@ -1,11 +1,8 @@
--- Fields side by side: one that is ill formed makes the line so, and fields written from left to right are the line's text. Assumes nothing.
+-- Fields side by side: the part of one, and fields written from left to right are the line's text. Assumes nothing.
 use Rattle.std.proofs.Common.{◌≡◌, ℕ, ◌+◌, ◌-◌, ◌≤◌, List, [], ◌∷◌, ◌++◌, length, take, drop, sym, refl, ◌∙◌, append_assoc, append-nil, arith, length-append, length-drop, length-take-le, drop-drop, take_at}
-use mathlib.Core.Option.{none}
 use lib.Seq.{drop-append-add}
-use Rattle.lines.specs.declared.field.Reading.{Reading}
-use Rattle.lines.specs.declared.field.Reading.TheVariants.{Value, Ill}
 use Rattle.lines.specs.Field.{digits, number, written}
-use Rattle.lines.specs.Columns.{field_at, both, numbers_at, text}
+use Rattle.lines.specs.Columns.{field_at, text}
 use Rattle.lines.specs.ColumnParts.{put_field}
 use Rattle.lines.proofs.numerals.WriteLaws.{length_written}
 
@@ -15,18 +12,6 @@ use Rattle.lines.proofs.numerals.WriteLaws.{length_written}
 pub read_part : (at w : ℕ) (l : List ℕ) → number (digits (take (at + w - at) (drop at l))) ≡ field_at at w l
 unfolding field_at
 read_part at w l = let k : at + w - at ≡ w = omega arith in rw k refl
-
-pub ill_here : (at w : ℕ) (ws l : List ℕ) → field_at at w l ≡ Ill → numbers_at at (w ∷ ws) l ≡ none
-unfolding numbers_at both
-ill_here at w ws l e = rw e refl
-
-pub ill_later : (at w : ℕ) (ws l : List ℕ) → numbers_at (at + w) ws l ≡ none → numbers_at at (w ∷ ws) l ≡ none
-unfolding numbers_at both
-ill_later at w ws l e = rw e (either (field_at at w l))
-  where
-    either : (r : Reading) → both r none ≡ none
-    either (Value n) = refl
-    either Ill = refl
 
 -- ---- writing
 

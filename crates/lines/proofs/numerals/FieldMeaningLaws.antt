@@ -1,8 +1,7 @@
 -- A field gives a number exactly if it is blanks and that number's numeral. Assumes nothing.
 use Rattle.std.proofs.Common.{◌≡◌, ℕ, zero, suc, ◌+◌, ◌<◌, ◌≤◌, Bool, true, false, cond, ◌&&◌, eqb, ltb, leb, List, [], ◌∷◌, ◌++◌, length, get_or, replicate, sym, refl, arith, ltb-false, eq-eqb, ne_eqb, eqb-true, le-leb, leb-true}
+use Rattle.std.specs.Prelude.{Option, None, Some}
 use borrow.Author.Tests.{eqb-false}
-use Rattle.lines.specs.declared.field.Reading.{Reading}
-use Rattle.lines.specs.declared.field.Reading.TheVariants.{Value, Ill}
 use Rattle.lines.specs.Field.{digits, is_digit, decimal, value_from, limit, value, leading_zero, number}
 use Rattle.lines.specs.FieldMeaning.{Numeral, IsField, ReadsFields}
 
@@ -65,25 +64,25 @@ numeral_no_zero ds n h = go (eqb (get_or ds 0 0) 48) refl
     go true e = rw (h.zero_alone (eqb-true _ _ e)) refl
     go false e = rw e (and_false (ltb 1 (length ds)))
 
-pub numeral_read : (ds : List ℕ) (n : ℕ) → Numeral ds n → n ≤ 4294967295 → number ds ≡ Value n
+pub numeral_read : (ds : List ℕ) (n : ℕ) → Numeral ds n → n ≤ 4294967295 → number ds ≡ Some n
 unfolding number value
 numeral_read ds n h s =
     let ne : length ds ≡ 0 → ⊥ = λ e. omega (arith, e, h.some_digit) in
     let fits : n ≤ limit = omega arith in
     rw (ne_eqb _ _ ne, numeral_no_zero ds n h, h.decimals, h.value, le-leb _ _ fits) refl
 
-pub field_read : (l : List ℕ) (n : ℕ) → IsField l n → number (digits l) ≡ Value n
+pub field_read : (l : List ℕ) (n : ℕ) → IsField l n → number (digits l) ≡ Some n
 field_read l n h =
     rw (h.text, blanks_off h.blanks h.figures, numeral_bare h.figures n h.numeral) (numeral_read h.figures n h.numeral h.fits)
 
 -- ---- what is read is a field
 
 -- what a test passed on
-not_ill : (x : Bool) (r : Reading) (n : ℕ) → cond x Ill r ≡ Value n → (x ≡ false) × (r ≡ Value n)
+not_ill : (x : Bool) (r : Option ℕ) (n : ℕ) → cond x None r ≡ Some n → (x ≡ false) × (r ≡ Some n)
 not_ill true r n e = let y : ◌≡◌ {A = ℕ} 0 1 = cc in absurd (omega arith)
 not_ill false r n e = (refl, e)
 
-well : (x : Bool) (r : Reading) (n : ℕ) → cond x r Ill ≡ Value n → (x ≡ true) × (r ≡ Value n)
+well : (x : Bool) (r : Option ℕ) (n : ℕ) → cond x r None ≡ Some n → (x ≡ true) × (r ≡ Some n)
 well true r n e = (refl, e)
 well false r n e = let y : ◌≡◌ {A = ℕ} 0 1 = cc in absurd (omega arith)
 
@@ -95,7 +94,7 @@ alone ds s h e = go (ltb 1 (length ds)) refl
     go true p = let z : true ≡ false = (rw (p, eq-eqb _ _ e) at h) in absurd (no z)
     go false p = omega (arith, ltb-false 1 (length ds) p)
 
-read_numeral : (ds : List ℕ) (n : ℕ) → number ds ≡ Value n → Numeral ds n × (n ≤ 4294967295)
+read_numeral : (ds : List ℕ) (n : ℕ) → number ds ≡ Some n → Numeral ds n × (n ≤ 4294967295)
 unfolding number value
 read_numeral ds n e =
     let some = not_ill (eqb (length ds) 0) _ n e in
@@ -107,14 +106,14 @@ read_numeral ds n e =
     let s : 0 < length ds = omega arith in
     (record { decimals = all.0; some_digit = s; zero_alone = alone ds s front.0; value = is }, omega (arith, leb-true (value_from 0 ds) limit small.0, is))
 
-pub read_field : (l : List ℕ) (n : ℕ) → number (digits l) ≡ Value n → IsField l n
+pub read_field : (l : List ℕ) (n : ℕ) → number (digits l) ≡ Some n → IsField l n
 unfolding digits
 read_field [] n e =
     let h = read_numeral [] n e in
     record { blanks = 0; figures = []; text = refl; numeral = h.0; fits = h.1 }
 read_field (b ∷ l) n e = go (eqb b 32) refl e (λ t. read_field l n t)
   where
-    go : (x : Bool) → eqb b 32 ≡ x → number (cond x (digits l) (b ∷ l)) ≡ Value n → (number (digits l) ≡ Value n → IsField l n) → IsField (b ∷ l) n
+    go : (x : Bool) → eqb b 32 ≡ x → number (cond x (digits l) (b ∷ l)) ≡ Some n → (number (digits l) ≡ Some n → IsField l n) → IsField (b ∷ l) n
     go true p e ih =
         let h = ih e in
         let is : b ≡ 32 = eqb-true b 32 p in

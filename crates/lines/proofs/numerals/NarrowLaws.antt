@@ -1,11 +1,11 @@
 -- A field of three columns: which part of it is its digits, and which number up to three digits give. Assumes nothing.
-use Rattle.std.proofs.Common.{◌≡◌, ℕ, zero, suc, ◌+◌, ◌-◌, ◌*◌, ◌/◌, ◌<◌, ◌≤◌, Bool, true, false, cond, eqb, List, [], ◌∷◌, length, get_or, drop, sym, refl, mul-le-mul, zero-mul, arith, lt-ltb, eq-eqb, ne_eqb}
-use Rattle.lines.specs.declared.field.Reading.TheVariants.{Value, Ill}
+use Rattle.std.proofs.Common.{◌≡◌, ℕ, suc, ◌+◌, ◌-◌, ◌*◌, ◌/◌, ◌<◌, ◌≤◌, Bool, true, false, cond, eqb, List, [], ◌∷◌, length, get_or, drop, sym, refl, mul-le-mul, zero-mul, arith, lt-ltb, eq-eqb, ne_eqb}
+use Rattle.std.specs.Prelude.{Option, None, Some}
 use Rattle.lines.specs.Field.{digits, is_digit, decimal, value_from, value, leading_zero, number}
 use Rattle.lines.specs.FieldMeaning.{Numeral}
 use Rattle.lines.specs.ColumnParts.{bit}
-use Rattle.lines.proofs.numerals.FieldMeaningLaws.{digit_is, and_false, numeral_read}
-use Rattle.lines.proofs.numerals.ReadLaws.{cond_same}
+use Rattle.lines.proofs.numerals.FieldMeaningLaws.{digit_is, numeral_read}
+use Rattle.lines.proofs.numerals.ReadLaws.{cond_same, not_decimal}
 
 -- ---- the part after the blanks
 
@@ -42,22 +42,16 @@ fewer_digits (b ∷ l) = go (eqb b 32) (fewer_digits l)
 
 -- ---- ill formed
 
-not_decimal : (d : List ℕ) (i : ℕ) → i < length d → is_digit (get_or d i 0) ≡ false → decimal d ≡ false
-unfolding decimal
-not_decimal [] i h e = absurd (omega arith)
-not_decimal (b ∷ d) zero h e = rw e refl
-not_decimal (b ∷ d) (suc i) h e = rw (not_decimal d i (omega arith) e) (and_false (is_digit b))
-
-pub other_ill : (d : List ℕ) (i : ℕ) → i < length d → is_digit (get_or d i 0) ≡ false → Ill ≡ number d
+pub other_ill : (d : List ℕ) (i : ℕ) → i < length d → is_digit (get_or d i 0) ≡ false → None ≡ number d
 unfolding number value
-other_ill d i h e = rw (not_decimal d i h e, cond_same (leading_zero d) Ill) (sym (cond_same (eqb (length d) 0) Ill))
+other_ill d i h e = rw (not_decimal d i h e, cond_same {A = Option ℕ} (leading_zero d) None) (sym (cond_same (eqb (length d) 0) None))
 
-pub none_ill : (d : List ℕ) → length d ≡ 0 → Ill ≡ number d
+pub none_ill : (d : List ℕ) → length d ≡ 0 → None ≡ number d
 unfolding number
 none_ill d e = rw (eq-eqb _ _ e) refl
 
 -- a first digit below 1 where others follow
-pub zero_ill : (d : List ℕ) (a : ℕ) → length d ≤ 3 → get_or d 0 0 ≡ 48 + a → a < length d / 2 → Ill ≡ number d
+pub zero_ill : (d : List ℕ) (a : ℕ) → length d ≤ 3 → get_or d 0 0 ≡ 48 + a → a < length d / 2 → None ≡ number d
 unfolding number leading_zero
 zero_ill d a three e lt =
     let some : length d ≡ 0 → ⊥ = λ z. omega arith in
@@ -96,7 +90,7 @@ module _ (a b c : ℕ) (p : a ≤ 9) (q : b ≤ 9) (r : c ≤ 9) where
 
   pub digits_read : (d : List ℕ) → 0 < length d → length d ≤ 3
       → get_or d 0 0 ≡ 48 + a → get_or d ((length d - 1) / 2) 0 ≡ 48 + b → get_or d (length d - 1) 0 ≡ 48 + c → length d / 2 ≤ a
-      → Value (summed a b c (length d)) ≡ number d
+      → Some (summed a b c (length d)) ≡ number d
   digits_read d some three is_a is_b is_c first =
       let v = decimal_value d some three is_a is_b is_c in
       let numeral : Numeral d (summed a b c (length d)) = record { decimals = v.0; some_digit = some; zero_alone = λ e. omega arith; value = v.1 } in

@@ -1,5 +1,5 @@
 -- Numerals: one digit more on the right, and the columns before a number's last digit. Assumes nothing.
-use Rattle.std.proofs.Common.{◌≡◌, ℕ, zero, suc, ◌+◌, ◌-◌, ◌*◌, ◌/◌, ◌%◌, ◌<◌, ◌≤◌, true, List, [], ◌∷◌, ◌++◌, length, get_or, drop, set, replicate, sym, refl, ap, ◌∙◌, add-one, arith, length-append, drop_of_length-le, drop-cons, ne_eqb, le-leb}
+use Rattle.std.proofs.Common.{◌≡◌, ℕ, zero, suc, ◌+◌, ◌-◌, ◌*◌, ◌/◌, ◌%◌, ◌<◌, ◌≤◌, true, List, [], ◌∷◌, ◌++◌, length, get_or, take, drop, set, replicate, sym, refl, ap, ◌∙◌, add-one, arith, length-append, length-take-le, drop_of_length-le, drop-cons, ne_eqb, le-leb}
 use lib.ListN.{length-replicate, get_or-append, replicate-append-replicate}
 use lib.Seq.{set_at}
 use Rattle.lines.specs.Field.{is_digit, decimal, value_from, glyph, lead, written}
@@ -22,16 +22,22 @@ unfolding written lead
 written_lead zero n p = refl
 written_lead (suc w) n p = rw (glyph_digit n p) refl
 
--- one digit after blanks: the last of the columns is written over blanks before it
-pub digit_written : (f l : List ℕ) (n i : ℕ) → length f ≡ i + 1 → l ≡ replicate i 32 ++ drop i f → n < 10 → set l i (48 + n) ≡ written (length f) n
+-- one digit after blanks: the last column is written behind a part that holds blanks
+pub digit_written : (f l : List ℕ) (n : ℕ) → 0 < length f → l ≡ replicate (length (take (length f - 1) f)) 32 → n < 10
+    → set (l ++ drop (length f - 1) f) (length f - 1) (48 + n) ≡ written (length f) n
 unfolding written
-digit_written f l n i e q h =
-    let lt : i < length f = omega arith in
-    let le : length f ≤ i + 1 = omega arith in
-    let first : n / 10 ≡ 0 = omega arith in
-    let second : n % 10 ≡ n = omega arith in
-    let none : drop (suc i) f ≡ [] = drop_of_length-le f (rw (add-one i) at le) in
-    rw (q, drop-cons f i 0 lt, none, e, add-one i, first, second, lead_zero i) (set_at (replicate i 32) (get_or f i 0) [] (48 + n) i (length-replicate i 32))
+digit_written f l n some q h =
+    let k : length (take (length f - 1) f) ≡ length f - 1 = length-take-le (length f - 1) f (omega arith) in
+    rw (q, k) (after_blanks (length f - 1) (omega arith))
+  where
+    after_blanks : (i : ℕ) → length f ≡ i + 1 → set (replicate i 32 ++ drop i f) i (48 + n) ≡ written (length f) n
+    after_blanks i e =
+        let lt : i < length f = omega arith in
+        let le : length f ≤ i + 1 = omega arith in
+        let first : n / 10 ≡ 0 = omega arith in
+        let second : n % 10 ≡ n = omega arith in
+        let none : drop (suc i) f ≡ [] = drop_of_length-le f (rw (add-one i) at le) in
+        rw (drop-cons f i 0 lt, none, e, add-one i, first, second, lead_zero i) (set_at (replicate i 32) (get_or f i 0) [] (48 + n) i (length-replicate i 32))
 
 -- ---- numerals
 

@@ -1,31 +1,56 @@
 -- Reading a field: the blanks before its digits, and the number of digits that are read one by one. Assumes nothing.
-use Rattle.std.proofs.Common.{◌≡◌, ℕ, suc, ◌+◌, ◌-◌, ◌*◌, ◌^◌, ◌<◌, ◌≤◌, Bool, true, false, cond, ltb, List, [], ◌∷◌, length, get_or, take, drop, sym, refl, ap, ◌∙◌, le_trans, mul-le-mul_right, mul_assoc, mul_comm, pow-suc, add-one, arith, length-drop, drop_of_length-le, take_all, drop-cons, ltb-false, ltb-true, lt-ltb, eq-eqb, ne_eqb}
+use Rattle.std.proofs.Common.{◌≡◌, ℕ, zero, suc, ◌+◌, ◌-◌, ◌*◌, ◌^◌, ◌<◌, ◌≤◌, Bool, true, false, cond, eqb, ltb, List, [], ◌∷◌, length, get_or, take, drop, sym, refl, ap, ◌∙◌, le_trans, mul-le-mul_right, mul_assoc, mul_comm, pow-suc, add-one, arith, length-drop, drop_of_length-le, take_all, drop-cons, ltb-false, ltb-true, lt-ltb, eq-eqb}
+use Rattle.std.specs.Prelude.{None, not, unwrap_or, position}
+use Rattle.std.specs.List.{position_or_len}
+use Rattle.std.proofs.lemmas.List.Sums.{prefix_len-le-length}
 use native.Mathlib.Nat.{pow-le-pow_right}
 use borrow.Author.Tests.{lt-leb}
-use Rattle.lines.specs.declared.field.Reading.TheVariants.{Ill}
 use Rattle.lines.specs.Field.{digits, is_digit, decimal, value_from, limit, value, leading_zero}
 use Rattle.lines.specs.ColumnParts.{limited}
-use Rattle.lines.proofs.numerals.FieldMeaningLaws.{digit_is}
+use Rattle.lines.proofs.numerals.FieldMeaningLaws.{digit_is, and_false}
 
 -- ---- blanks
-
-pub blank_more : (l : List ℕ) (i : ℕ) → i < length l → get_or l i 0 ≡ 32 → digits (drop i l) ≡ digits (drop (i + 1) l)
-unfolding digits
-blank_more l i h e = rw (add-one i, drop-cons l i 0 h, eq-eqb _ _ e)
-
-pub blank_end : (l : List ℕ) (i : ℕ) → i < length l → (get_or l i 0 ≡ 32 → ⊥) → digits (drop i l) ≡ drop i l
-unfolding digits
-blank_end l i h e = rw (drop-cons l i 0 h, ne_eqb _ _ e)
-
-pub blank_all : (l : List ℕ) (i : ℕ) → length l ≤ i → digits (drop i l) ≡ drop i l
-unfolding digits
-blank_all l i h = rw (drop_of_length-le l h)
 
 -- the part from i on is what is dropped to
 pub part_from : (l : List ℕ) (i : ℕ) → take (length l - i) (drop i l) ≡ drop i l
 part_from l i = take_all (length l - i) (drop i l) (omega (arith, length-drop i l))
 
+-- the digits are what is behind the blanks
+behind_blanks : (l : List ℕ) → drop (position_or_len (λ b. not (eqb b 32)) l) l ≡ digits l
+unfolding digits
+behind_blanks [] = refl
+behind_blanks (b ∷ l) = go (eqb b 32) refl (behind_blanks l)
+  where
+    go : (x : Bool) → eqb b 32 ≡ x → drop (position_or_len (λ b. not (eqb b 32)) l) l ≡ digits l
+        → drop (position_or_len (λ b. not (eqb b 32)) (b ∷ l)) (b ∷ l) ≡ digits (b ∷ l)
+    go true e h = let more : 1 + position_or_len (λ b. not (eqb b 32)) l ≡ suc (position_or_len (λ b. not (eqb b 32)) l) = omega arith in rw (e, more) h
+    go false e h = rw e refl
+
+-- the part from the first column on that is not blank: i is that column, and where there is none, the end
+pub part_behind : (l : List ℕ) (i : ℕ) → i ≡ unwrap_or (position (λ b. not (eqb b 32)) l) (length l) → take (length l - i) (drop i l) ≡ digits l
+part_behind l i e = part_from l i ∙ (rw (e, place (ltb (position_or_len (λ b. not (eqb b 32)) l) (length l)) refl) (behind_blanks l))
+  where
+    place : (x : Bool) → ltb (position_or_len (λ b. not (eqb b 32)) l) (length l) ≡ x
+        → unwrap_or (position (λ b. not (eqb b 32)) l) (length l) ≡ position_or_len (λ b. not (eqb b 32)) l
+    place true p = rw p refl
+    place false p = rw p (omega (arith, ltb-false _ _ p, prefix_len-le-length (λ b. not (not (eqb b 32))) l))
+
 -- ---- digits
+
+pub cond_same : {A : Type 0} (x : Bool) (a : A) → cond x a a ≡ a
+cond_same true a = refl
+cond_same false a = refl
+
+-- a byte that is no digit
+pub not_decimal : (d : List ℕ) (i : ℕ) → i < length d → is_digit (get_or d i 0) ≡ false → decimal d ≡ false
+unfolding decimal
+not_decimal [] i h e = absurd (omega arith)
+not_decimal (b ∷ d) zero h e = rw e refl
+not_decimal (b ∷ d) (suc i) h e = rw (not_decimal d i (omega arith) e) (and_false (is_digit b))
+
+pub other_value : (l : List ℕ) (i : ℕ) → i < length l → is_digit (get_or l i 0) ≡ false → None ≡ value l
+unfolding value
+other_value l i h e = rw (not_decimal l i h e) refl
 
 -- what is known of digits of which i are read, and gave n
 pub record Reads (l : List ℕ) (n i : ℕ) : Type 0 where
@@ -45,17 +70,6 @@ module _ (l : List ℕ) (n i : ℕ) (h : Reads l n i) (lt : i < length l) where
         decimals = h.decimals ∙ rw (add-one i, drop-cons l i 0 lt, digit_is _ a e q);
         number = h.number ∙ rw (add-one i, drop-cons l i 0 lt) (ap (λ (m : ℕ). value_from m (drop (suc i) l)) next);
       }
-
-  pub reads_other : is_digit (get_or l i 0) ≡ false → Ill ≡ value l
-  unfolding decimal value
-  reads_other e = rw (h.decimals, drop-cons l i 0 lt, e)
-
--- two digits
-pub reads_two : (l : List ℕ) (n i a b : ℕ) → Reads l n i → i + 1 < length l → get_or l i 0 ≡ 48 + a → a ≤ 9 → get_or l (i + 1) 0 ≡ 48 + b → b ≤ 9
-    → Reads l ((n * 10 + a) * 10 + b) (i + 2)
-reads_two l n i a b h lt is_a p is_b q =
-    let two : i + 2 ≡ i + 1 + 1 = omega arith in
-    rw two (reads_more l (n * 10 + a) (i + 1) (reads_more l n i h (omega arith) a is_a p) lt b is_b q)
 
 -- no digit is left
 pub reads_all : (l : List ℕ) (n i : ℕ) → Reads l n i → length l ≤ i → limited n ≡ value l
@@ -85,12 +99,8 @@ ten_more n l p q =
     let s : 1 * 10 ^ length l ≤ n * 10 ^ length l = mul-le-mul_right (10 ^ length l) p in
     omega (arith, value_scaled n l)
 
-pub cond_same : {A : Type 0} (x : Bool) (a : A) → cond x a a ≡ a
-cond_same true a = refl
-cond_same false a = refl
-
 -- such digits are ill formed, if they do not begin with a zero
-pub long_ill : (l : List ℕ) → 10 < length l → leading_zero l ≡ false → Ill ≡ value l
+pub long_ill : (l : List ℕ) → 10 < length l → leading_zero l ≡ false → None ≡ value l
 unfolding leading_zero value decimal value_from
 long_ill [] p q = absurd (omega arith)
 long_ill (b ∷ l) p q = go (ltb b 49) refl
@@ -102,7 +112,7 @@ long_ill (b ∷ l) p q = go (ltb b 49) refl
         let y : ◌≡◌ {A = ℕ} 0 1 = cc in
         omega arith
 
-    go : (x : Bool) → ltb b 49 ≡ x → Ill ≡ value (b ∷ l)
+    go : (x : Bool) → ltb b 49 ≡ x → None ≡ value (b ∷ l)
     go true e =
         let ne : b ≡ 48 → ⊥ = no_zero in
         let lo : b < 48 = omega (arith, ltb-true b 49 e) in
@@ -110,4 +120,4 @@ long_ill (b ∷ l) p q = go (ltb b 49) refl
     go false e =
         let hi : 49 ≤ b = ltb-false b 49 e in
         let v : limit < value_from (0 * 10 + (b - 48)) l = ten_more (0 * 10 + (b - 48)) l (omega arith) (omega arith) in
-        rw (lt-leb _ _ v) (sym (cond_same (decimal (b ∷ l)) Ill))
+        rw (lt-leb _ _ v) (sym (cond_same (decimal (b ∷ l)) None))

@@ -5,6 +5,3 @@ use Rattle.lines.proofs.field.put_number.Given as goal
 
 abbrev pub invariant-loop-i : goal.invariant-loop-i
 invariant-loop-i l = (length l.initial.field ≡ l.w) × Spelt l.w l.n l.field l.i l.rest
-
-abbrev pub decreases-loop-i : goal.decreases-loop-i
-decreases-loop-i l = l.i

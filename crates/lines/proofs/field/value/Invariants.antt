@@ -1,10 +1,6 @@
--- The loop keeps that the first i digits are read and gave n; the digits that are left become fewer.
-use Rattle.std.proofs.Common.{◌-◌, length}
+-- The loop keeps that the digits before the next one are read and gave n.
 use Rattle.lines.proofs.numerals.ReadLaws.{Reads}
 use Rattle.lines.proofs.field.value.Given as goal
 
-abbrev pub invariant-loop-i : goal.invariant-loop-i
-invariant-loop-i l = Reads l.digits l.n l.i
-
-abbrev pub decreases-loop-i : goal.decreases-loop-i
-decreases-loop-i l = length l.digits - l.i
+abbrev pub invariant-loop-b : goal.invariant-loop-b
+invariant-loop-b l = Reads l.digits l.n l.b-index
