@@ -7,3 +7,4 @@ pub mod BoundedSquares
 pub mod ScaledLaws
 pub mod NoDirectionLaws
 pub mod UncheckedLaws
+pub mod ScaledByLaws

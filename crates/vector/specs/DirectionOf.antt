@@ -1,9 +1,7 @@
 -- "Direction of" a vector (document 02, f): "In the trade only the zero vector has no direction"; and the same where there always is one (g).
-use Rattle.std.specs.Prelude.{Bool, not, ◌&&◌, cond}
+use Rattle.std.specs.Prelude.{Bool, not, ◌&&◌, cond, Option, None}
 use Rattle.std.specs.Float.Ieee.{eq}
 use Rattle.vector.specs.declared.vec3.Vec3.{Vec3}
-use Rattle.vector.specs.declared.vec3.normalizing.Normalized.{Normalized}
-use Rattle.vector.specs.declared.vec3.normalizing.Normalized.TheVariants.{Nothing}
 use Rattle.vector.specs.Vectors.{zer}
 use Rattle.vector.specs.Operators.{mul_number}
 use Rattle.vector.specs.Comparisons.{is_finite}
@@ -20,8 +18,8 @@ abbrev pub has_direction : Vec3 → Bool
 has_direction v = is_finite v && not (three_zeros v)
 
 -- "multiply its components by the power of two .., then take `try_normalize` of that"
-unfoldable pub direction_of : Vec3 → Normalized
-direction_of v = cond (has_direction v) (try_normalize (scaled v)) Nothing
+unfoldable pub direction_of : Vec3 → Option Vec3
+direction_of v = cond (has_direction v) (try_normalize (scaled v)) None
 
 -- "The test then leaves these three commands" (g): the vector of `try_normalize` of the scaled vector, which is its product with the reciprocal of its length, without
 -- the test. It is the direction where there is one (specs/NeverZero); three zeros give three NaNs, a NaN likewise, and an infinite component a NaN beside zeros.

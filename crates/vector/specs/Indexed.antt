@@ -1,7 +1,6 @@
 -- An element by its index (document 01, "Refused, and by whose doing": "10, a component or `test` index above 2").
-use Rattle.std.specs.Prelude.{ℕ, cond, eqb, Float}
+use Rattle.std.specs.Prelude.{ℕ, cond, eqb, Float, Option, Some, None}
 use Rattle.vector.specs.declared.vec3.Vec3.{Vec3}
-use Rattle.vector.specs.declared.vec3.index.Component.{Component}
 use Rattle.vector.specs.Vectors.{zer}
 use Rattle.vector.specs.Answers.{Answer, given, refused}
 
@@ -14,9 +13,9 @@ indexed zero x y z i =
     cond (eqb i 0) (given x) (cond (eqb i 1) (given y) (cond (eqb i 2) (given z) (out_of_range zero)))
 
 -- the paper's number and value for each case of the answer
-abbrev pub answer_of : Component → Answer Float
-answer_of (Component.At v) = given v
-answer_of Component.OutOfRange = out_of_range zer
+abbrev pub answer_of : Option Float → Answer Float
+answer_of (Some v) = given v
+answer_of None = out_of_range zer
 
 unfoldable pub component : Vec3 → ℕ → Answer Float
 component a i = indexed zer a.x a.y a.z i

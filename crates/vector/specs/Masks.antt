@@ -1,8 +1,7 @@
 -- Masks (document 01, "Masks and vectors": "BVec3: `new`, `splat`, `test`, `bitmask`, and, or, not"), as src/bool/bvec3.rs has them.
-use Rattle.std.specs.Prelude.{ℕ, ◌+◌, ◌*◌, Bool, false, cond, ◌&&◌, ◌||◌}
+use Rattle.std.specs.Prelude.{ℕ, ◌+◌, ◌*◌, Bool, false, cond, ◌&&◌, ◌||◌, Option, Some, None}
 use Rattle.std.proofs.Math.Bool as Bools
 use Rattle.vector.specs.declared.bvec3.BVec3.{BVec3}
-use Rattle.vector.specs.declared.bvec3.Tested.{Tested}
 use Rattle.vector.specs.Answers.{Answer, given}
 use Rattle.vector.specs.Indexed.{out_of_range, indexed}
 
@@ -18,11 +17,11 @@ unfoldable pub bitmask : BVec3 → ℕ
 bitmask m = bit m.x + bit m.y * 2 + bit m.z * 4
 
 -- the paper's number and value for each case of the answer
-abbrev pub answer_of : Tested → Answer Bool
-answer_of (Tested.Bit b) = given b
-answer_of Tested.OutOfRange = out_of_range false
+abbrev pub answer_of : Option Bool → Answer Bool
+answer_of (Some b) = given b
+answer_of None = out_of_range false
 
-unfoldable pub test : BVec3 → ℕ → Answer Bool
+abbrev pub test : BVec3 → ℕ → Answer Bool
 test m i = indexed false m.x m.y m.z i
 
 -- self.x & rhs.x and so on

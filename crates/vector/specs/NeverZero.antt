@@ -1,10 +1,9 @@
 -- For tutors (document 02, g): "the vectors which 22, 23 and 24 make a direction of are never zero and always finite, given the bound on the rows that they read and the
 -- range of u". Of a row that is read nothing is used but the bound, that its exact squared length lies within 2^-18 of 1, however it was made.
-use Rattle.std.specs.Prelude.{◌≡◌, false, not, T, Float}
+use Rattle.std.specs.Prelude.{◌≡◌, false, not, T, Float, Some}
 use Rattle.std.specs.Float.{binary32}
 use Rattle.std.specs.Float.Ieee.{fits, lt, le}
 use Rattle.vector.specs.declared.vec3.Vec3.{Vec3}
-use Rattle.vector.specs.declared.vec3.normalizing.Normalized.TheVariants.{Unit}
 use Rattle.vector.specs.Vectors.{zer}
 use Rattle.vector.specs.Products.{length_squared}
 use Rattle.vector.specs.Normalizing.{try_normalize}
@@ -23,7 +22,7 @@ pub record NeverZero (v : Vec3) : Type 0 where
   -- and not nearly zero either: the computed `length_squared` is between 0.99 and 1.01
   pub squared_length : AboutOne (length_squared v)
   -- so no test is needed: `try_normalize` of the scaled vector answers a vector, and this is the one; its exact squared length is within 15 times 2^-24 of 1
-  pub answers : try_normalize (scaled v) ≡ Unit (direction_unchecked v)
+  pub answers : try_normalize (scaled v) ≡ Some (direction_unchecked v)
   pub unit : UnitWithin 15 (direction_unchecked v)
 
 -- a mirror, a bend and a pair
@@ -39,4 +38,4 @@ pub record RaysNeverZero : Type 0 where
 
 -- Of any vector of f32 values that has a direction: `try_normalize` of the scaled one answers, and answers this.
 abbrev pub LawUnchecked : Type 0
-LawUnchecked = (v : Vec3) → F32Vec v → T (has_direction v) → try_normalize (scaled v) ≡ Unit (direction_unchecked v)
+LawUnchecked = (v : Vec3) → F32Vec v → T (has_direction v) → try_normalize (scaled v) ≡ Some (direction_unchecked v)

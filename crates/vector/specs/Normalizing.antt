@@ -1,13 +1,11 @@
 -- Unit vectors (document 01, "Masks and vectors": "`try_normalize` answers a unit vector or the word that there is none .. `is_normalized` tests
 -- 2e-4 on the square"), as src/f32/vec3.rs has them.
-use Rattle.std.specs.Prelude.{Bool, ◌&&◌, cond, Float}
+use Rattle.std.specs.Prelude.{Bool, ◌&&◌, cond, Float, Option, Some, None}
 use Rattle.std.specs.Float.{binary32}
 use Rattle.std.specs.Float.Ieee.{of_bits, sub, div, lt, le}
 use Rattle.std.specs.Float.Ieee.Scale.{finite}
 use Rattle.scalar.specs.Sign.{abs}
 use Rattle.vector.specs.declared.vec3.Vec3.{Vec3}
-use Rattle.vector.specs.declared.vec3.normalizing.Normalized.{Normalized}
-use Rattle.vector.specs.declared.vec3.normalizing.Normalized.TheVariants.{Unit, Nothing}
 use Rattle.vector.specs.declared.vec3.normalizing.NormalizedAndLength.{NormalizedAndLength}
 use Rattle.vector.specs.Vectors.{vec, zer, one, ZERO, X}
 use Rattle.vector.specs.Answers.{Answer, given, refused}
@@ -24,13 +22,13 @@ unfoldable pub usable : Float → Bool
 usable rcp = finite rcp && lt zer rcp
 
 -- the paper's number and values for each case of the answer: "7, .. no direction"
-abbrev pub answer_of : Normalized → Answer Vec3
-answer_of (Unit v) = given v
-answer_of Nothing = refused 7 ZERO
+abbrev pub answer_of : Option Vec3 → Answer Vec3
+answer_of (Some v) = given v
+answer_of None = refused 7 ZERO
 
 -- let rcp = self.length_recip(); if .. { Some(self * rcp) } else { None }
-unfoldable pub try_normalize : Vec3 → Normalized
-try_normalize a = let rcp = length_recip a in cond (usable rcp) (Unit (mul_number a rcp)) Nothing
+unfoldable pub try_normalize : Vec3 → Option Vec3
+try_normalize a = let rcp = length_recip a in cond (usable rcp) (Some (mul_number a rcp)) None
 
 -- let rcp = self.length_recip(); if .. { self * rcp } else { fallback }
 unfoldable pub normalize_or : Vec3 → Vec3 → Vec3

@@ -1,8 +1,7 @@
 -- What `try_normalize` says (document 01, "Masks and vectors": "none exactly if `length_squared` is zero, infinite or NaN").
-use Rattle.std.specs.Prelude.{◌≡◌, Bool, true, not, cond, T, eqb, Float}
+use Rattle.std.specs.Prelude.{◌≡◌, Bool, true, not, cond, T, eqb, Float, Some, None}
 use Rattle.std.specs.Float.{nan, inf, fin}
 use Rattle.vector.specs.declared.vec3.Vec3.{Vec3}
-use Rattle.vector.specs.declared.vec3.normalizing.Normalized.TheVariants.{Unit, Nothing}
 use Rattle.vector.specs.Vectors.{ZERO}
 use Rattle.vector.specs.Answers.{Answer, given, refused}
 use Rattle.vector.specs.Operators.{mul_number}
@@ -21,7 +20,7 @@ unit_or_none a = cond (zero_infinite_or_nan (length_squared a)) (refused 7 ZERO)
 
 -- of every vector a: there is no threshold
 pub record NoneExactly (a : Vec3) : Type 0 where
-  pub none_if : T (zero_infinite_or_nan (length_squared a)) → try_normalize a ≡ Nothing
-  pub only_if : try_normalize a ≡ Nothing → T (zero_infinite_or_nan (length_squared a))
+  pub none_if : T (zero_infinite_or_nan (length_squared a)) → try_normalize a ≡ None
+  pub only_if : try_normalize a ≡ None → T (zero_infinite_or_nan (length_squared a))
   -- and else it is a times the reciprocal of its length
-  pub unit : T (not (zero_infinite_or_nan (length_squared a))) → try_normalize a ≡ Unit (mul_number a (length_recip a))
+  pub unit : T (not (zero_infinite_or_nan (length_squared a))) → try_normalize a ≡ Some (mul_number a (length_recip a))

@@ -1,5 +1,5 @@
 -- What demand 3 says of rounded arithmetic, for every vector: unit vectors, orthogonal pairs, reflections and refractions. The proofs are in proofs/.
-use Rattle.std.specs.Prelude.{◌≡◌, true, ℕ, ◌*◌, ◌^◌, T, Float}
+use Rattle.std.specs.Prelude.{◌≡◌, true, ℕ, ◌*◌, ◌^◌, T, Float, Some}
 use Rattle.std.specs.Float.{binary32}
 use Rattle.std.specs.Float.Ieee.{fits, of_bits, sub, le}
 use Rattle.std.specs.Float.Ieee.Scale.{finite}
@@ -7,7 +7,6 @@ use Rattle.laws.specs.Exact.{size_in}
 use Rattle.laws.specs.Within.{Within}
 use Rattle.scalar.specs.Sign.{abs}
 use Rattle.vector.specs.declared.vec3.Vec3.{Vec3}
-use Rattle.vector.specs.declared.vec3.normalizing.Normalized.TheVariants.{Unit}
 use Rattle.vector.specs.Vectors.{zer, one}
 use Rattle.vector.specs.Products.{length, length_squared}
 use Rattle.vector.specs.Normalizing.{try_normalize, is_normalized}
@@ -19,7 +18,7 @@ use Rattle.vector.specs.ExactVectors.{F32Vec, FiniteVec, UnitWithin, Direction, 
 -- U: whatever has a number that is not zero and only finite ones has a direction, and its exact squared length is within 15 times 2^-24 of 1
 pub record HasDirection (a : Vec3) : Type 0 where
   pub direction : Vec3
-  pub is : direction_of a ≡ Unit direction
+  pub is : direction_of a ≡ Some direction
   pub unit : UnitWithin 15 direction
 
 abbrev pub LawU : Type 0

@@ -1,8 +1,7 @@
 -- Cases of document 02's f and g, computed from the definitions. f is the float of a bit pattern.
-use Rattle.std.specs.Prelude.{◌≡◌, true, ℕ, Float}
+use Rattle.std.specs.Prelude.{◌≡◌, true, ℕ, Float, Some, None}
 use Rattle.std.specs.Float.{nan, inf, binary32}
 use Rattle.std.specs.Float.Ieee.{of_bits}
-use Rattle.vector.specs.declared.vec3.normalizing.Normalized.TheVariants.{Unit, Nothing}
 use Rattle.vector.specs.Vectors.{vec, zer, one, X}
 use Rattle.vector.specs.Normalizing.{try_normalize}
 use Rattle.vector.specs.Scaled.{scaled}
@@ -13,9 +12,9 @@ f b = of_bits binary32 b
 
 pub record ScaledCorners : Type 0 where
   -- "The marked case (2^-64, 0, 0) now gives (1, 0, 0)"; "`try_normalize` itself keeps its answers": of (2^-80, 0, 0), whose square vanishes, there is none
-  pub short : direction_of (vec (f 0x1f800000) zer zer) ≡ Unit X
-  pub unscaled : try_normalize (vec (f 0x17800000) zer zer) ≡ Nothing
-  pub shorter : direction_of (vec (f 0x17800000) zer zer) ≡ Unit X
+  pub short : direction_of (vec (f 0x1f800000) zer zer) ≡ Some X
+  pub unscaled : try_normalize (vec (f 0x17800000) zer zer) ≡ None
+  pub shorter : direction_of (vec (f 0x17800000) zer zer) ≡ Some X
   -- the largest size just below 1 and just below 2, by the powers 2 and 1
   pub below_one : scaled (vec (f 0x3f7fffff) zer zer) ≡ vec (f 0x3fffffff) zer zer
   pub below_two : scaled (vec zer (f 0xbfffffff) one) ≡ vec zer (f 0xbfffffff) one
@@ -28,8 +27,8 @@ pub record ScaledCorners : Type 0 where
   -- to even: 3 times 2^-149 and 2^-1 are 2 times 2^-149
   pub tie : scaled (vec (f 0x40000000) (f 3) zer) ≡ vec one (f 2) zer
   -- "exactly for three zeros .. for those or a number not finite"
-  pub zeros : direction_of (vec zer (f 0x80000000) zer) ≡ Nothing
-  pub infinite : direction_of (vec one (inf true) zer) ≡ Nothing
+  pub zeros : direction_of (vec zer (f 0x80000000) zer) ≡ None
+  pub infinite : direction_of (vec one (inf true) zer) ≡ None
   -- without the test: the direction where there is one; NaNs of three zeros and of a NaN, and zeros beside an infinite component
   pub unchecked : direction_unchecked (vec (f 0x1f800000) zer zer) ≡ X
   pub unchecked_zeros : direction_unchecked (vec zer (f 0x80000000) zer) ≡ vec nan nan nan

@@ -2,6 +2,8 @@
 ghost use Rattle.std.specs.Prelude.{◌≡◌};
 ghost use Rattle.vector.specs.Masks as Masks;
 
+use std::ops::{BitAnd, BitOr, Not};
+
 #[derive(Clone, Copy)]
 pub struct BVec3 {
     pub x: bool,
@@ -9,80 +11,75 @@ pub struct BVec3 {
     pub z: bool,
 }
 
-// What `test` answers: a bit, or refusal 10.
-#[derive(Clone, Copy)]
-pub enum Tested {
-    Bit(bool),
-    OutOfRange,
-}
-
-// b as u32
-fn bit(b: bool) -> u32
-    ensures { result ≡ Masks.bit b }
-{
-    if b { 1 } else { 0 }
-}
-
 impl BVec3 {
-    pub fn new(x: bool, y: bool, z: bool) -> BVec3
+    pub fn new(x: bool, y: bool, z: bool) -> Self
         ensures { result ≡ Masks.mask x y z }
     {
-        BVec3 { x: x, y: y, z: z }
+        Self { x, y, z }
     }
 
     // All elements v.
-    pub fn splat(v: bool) -> BVec3
+    pub fn splat(v: bool) -> Self
         ensures { result ≡ Masks.mask v v v }
     {
-        BVec3::new(v, v, v)
+        Self::new(v, v, v)
     }
 
     // A number whose lowest 3 bits are the elements, x the lowest.
+    #[tactic(auto, unfolding(crate::specs::Masks::bitmask))]
     pub fn bitmask(self) -> u32
         ensures { result ≡ Masks.bitmask self }
     {
-        bit(self.x) | (bit(self.y) << 1) | (bit(self.z) << 2)
+        (self.x as u32) | ((self.y as u32) << 1) | ((self.z as u32) << 2)
     }
 
-    // The element at an index 0 to 2.
-    pub fn test(self, index: u32) -> Tested
+    // The element at an index 0 to 2, or none, which is refusal 10.
+    #[tactic(auto, unfolding(crate::specs::Indexed::indexed))]
+    pub fn test(self, index: u32) -> Option<bool>
         ensures { Masks.answer_of result ≡ Masks.test self index }
     {
-        match index {
-            0 => Tested::Bit(self.x),
-            1 => Tested::Bit(self.y),
-            2 => Tested::Bit(self.z),
-            _ => Tested::OutOfRange,
-        }
+        [self.x, self.y, self.z].get(index as usize).copied()
     }
+}
 
-    // self & rhs
-    pub fn and(self, rhs: BVec3) -> BVec3
-        ensures { result ≡ Masks.and self rhs }
-    {
-        BVec3 {
+impl BitAnd for BVec3 {
+    type Output = Self;
+
+    ghost bitand_gives = { λ a b r. r ≡ Masks.and a b };
+
+    #[tactic(auto, unfolding(crate::specs::Masks::and))]
+    fn bitand(self, rhs: Self) -> Self {
+        Self {
             x: self.x & rhs.x,
             y: self.y & rhs.y,
             z: self.z & rhs.z,
         }
     }
+}
 
-    // self | rhs
-    pub fn or(self, rhs: BVec3) -> BVec3
-        ensures { result ≡ Masks.or self rhs }
-    {
-        BVec3 {
+impl BitOr for BVec3 {
+    type Output = Self;
+
+    ghost bitor_gives = { λ a b r. r ≡ Masks.or a b };
+
+    #[tactic(auto, unfolding(crate::specs::Masks::or))]
+    fn bitor(self, rhs: Self) -> Self {
+        Self {
             x: self.x | rhs.x,
             y: self.y | rhs.y,
             z: self.z | rhs.z,
         }
     }
+}
 
-    // !self
-    pub fn not(self) -> BVec3
-        ensures { result ≡ Masks.not self }
-    {
-        BVec3 {
+impl Not for BVec3 {
+    type Output = Self;
+
+    ghost not_gives = { λ a r. r ≡ Masks.not a };
+
+    #[tactic(auto, unfolding(crate::specs::Masks::not))]
+    fn not(self) -> Self {
+        Self {
             x: !self.x,
             y: !self.y,
             z: !self.z,

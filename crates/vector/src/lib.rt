@@ -1,4 +1,4 @@
-// Layer 2, vectors: Vec3, its masks and its four-number companion, named and ordered as in the Rust.
+// Layer 2, vectors: Vec3, its masks and its four-number companion. Names and order are the Rust's.
 #![tactic(auto)]
 
 pub mod bvec3;

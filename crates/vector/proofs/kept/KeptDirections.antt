@@ -8,6 +8,7 @@ use native.Mathlib.Omega.{arith}
 use lib.Dec.{T, leb, leb→le, nleb→lt, lit≤, lit<}
 use lib.Ieee.{Float, binary32, unlike, size, round, mul}
 use lib.Ieee.Positive.{positive_of_value}
+use Rattle.std.specs.Prelude.{Some}
 use Rattle.laws.specs.Exact.{negative, size_in}
 use Rattle.laws.proofs.values.ValueLaws.{Value, size_is}
 use Rattle.laws.proofs.values.SizeLaws.{value_of_size}
@@ -15,7 +16,6 @@ use Rattle.laws.proofs.operations.OperationLaws.{mul_at}
 use Rattle.laws.proofs.rounding.ErrorLaws.{rounded}
 use Rattle.scalar.specs.Powers.{times_power, log2}
 use Rattle.vector.specs.declared.vec3.Vec3.{Vec3}
-use Rattle.vector.specs.declared.vec3.normalizing.Normalized.TheVariants.{Unit}
 use Rattle.vector.specs.Vectors.{vec, each}
 use Rattle.vector.specs.Operators.{mul_number}
 use Rattle.vector.specs.Products.{length, length_squared, length_recip}
@@ -116,7 +116,7 @@ module _ (a b : Vec3) (v : F32Vec a) (n : FiniteVec a) where
     twice_kept : try_normalize b ≡ try_normalize a
     twice_kept =
         (none_exactly b).unit (positive_some (length_squared b) (positive_of_value (length_squared b) (L * 4) D k_value (mul-pos some (lit< tt))))
-        ∙ ap Unit same
+        ∙ ap Some same
         ∙ sym ((none_exactly a).unit (positive_some (length_squared a) (positive_of_value (length_squared a) L D l_value some)))
 
 -- ---- 1 or 2

@@ -2,12 +2,12 @@
 use mathlib.Core.Bool.{Bool, true, false, cond}
 use lib.Dec.{T}
 use lib.Ieee.{Float, lt, eq, le, of_bits}
+use Rattle.std.proofs.lemmas.Float.{le_refl, le_of_lt, le_left, le_right}
 use Rattle.vector.specs.declared.vec3.Vec3.{Vec3}
 use Rattle.vector.specs.Vectors.{zer, one, ZERO, ONE}
 use Rattle.vector.specs.Elements.{lesser, greater, min, max, clamp}
 use Rattle.vector.specs.Rounding.{saturate}
 use Rattle.vector.specs.ElementsMeaning.{AtMost, Clamped}
-use Rattle.vector.proofs.meanings.OrderLaws.{le_of_lt, le_self, le_left, le_right}
 
 above : (a lo : Float) → T (le lo lo) → T (le lo (greater a lo))
 unfolding greater
@@ -23,10 +23,10 @@ between g lo hi low order = go (lt g hi) (le_of_lt g hi)
   where
     go : (b : Bool) → (T b → T (le g hi)) → T (le lo (cond b g hi)) × T (le (cond b g hi) hi)
     go true h = (low, h tt)
-    go false h = (order, le_self hi (le_right lo hi order))
+    go false h = (order, le_refl hi (le_right lo hi order))
 
 clamped_number : (a lo hi : Float) → T (le lo hi) → T (le lo (lesser (greater a lo) hi)) × T (le (lesser (greater a lo) hi) hi)
-clamped_number a lo hi order = between (greater a lo) lo hi (above a lo (le_self lo (le_left lo hi order))) order
+clamped_number a lo hi order = between (greater a lo) lo hi (above a lo (le_refl lo (le_left lo hi order))) order
 
 pub clamped : (a lo hi : Vec3) → AtMost lo hi → Clamped lo hi (clamp a lo hi)
 unfolding clamp min max

@@ -4,15 +4,15 @@ use mathlib.Core.Bool.{Bool, true, false, not, cond}
 use Prim.Native.Nat.{ℕ, ◌≤◌, ◌<◌}
 use native.Mathlib.Nat.{le_antisymm}
 use native.Mathlib.Omega.{arith}
-use lib.Dec.{T, ltb, not_T, ltb→lt, nltb→le, lit≤}
+use lib.Dec.{T, ltb, not_T, T_not, ltb→lt, nltb→le, lit≤}
 use lib.Ieee.{Float, lt, is_nan}
+use Rattle.std.proofs.lemmas.Float.{le_of_lt, le_left, le_right, le_of_not-lt, lt_irrefl, lt_trans, lt_of_lt_of_le, lt_of_le_of_lt}
 use Rattle.vector.specs.declared.vec3.Vec3.{Vec3}
 use Rattle.vector.specs.Indexed.{indexed, component}
 use Rattle.vector.specs.Comparisons as Comparisons
 use Rattle.vector.specs.Elements.{gt, position, min_position, max_position}
 use Rattle.vector.specs.ElementsMeaning.{Positions, at, First}
 use Rattle.vector.proofs.meanings.IndexedLaws.{by_index, number_at}
-use Rattle.vector.proofs.meanings.OrderLaws.{lt_once, lt_split}
 
 position_small : (before : Float → Float → Bool) (a : Vec3) → position before a ≤ 2
 unfolding position
@@ -28,17 +28,13 @@ unfolding min_position max_position
 positions a = record { least = position_small _ a; greatest = position_small _ a }
 
 -- ---- a first index is the only one
-clash : (b : Bool) → T b → T (not b) → ⊥
-clash true t f = f
-clash false t f = elim t [ ]
-
 module _ (before : Float → Float → Bool) (a : Vec3) where
   not_above : (i j : ℕ) → First before a i → First before a j → j ≤ i
   not_above i j p q =
       nltb→le i j
       (not_T (ltb i j) (λ t.
       let h = ltb→lt i j t in
-      clash (before (at a j) (at a i)) (q.lower i (omega arith)) (p.none j (omega arith))))
+      T_not (before (at a j) (at a i)) (p.none j (omega arith)) (q.lower i (omega arith))))
 
   pub first_unique : (i j : ℕ) → First before a i → First before a j → i ≡ j
   first_unique i j p q = le_antisymm (not_above j i q p) (not_above i j p q)
@@ -49,11 +45,7 @@ module _ (before : Float → Float → Bool)
     (once : (x y : Float) → T (before x y) → T (not (before y x)))
     (split : (z x y : Float) → T (not (is_nan y)) → T (before z x) → T (not (before y x)) → T (before z y)) where
   never : (x : Float) → T (not (before x x))
-  never x = go (before x x) (once x x)
-    where
-      go : (b : Bool) → (T b → T (not b)) → T (not b)
-      go true h = h tt
-      go false h = tt
+  never x = not_T (before x x) (λ t. T_not (before x x) (once x x t) t)
 
   module _ (a : Vec3) where
     at_0 : T (not (before a.y a.x)) → T (not (before a.z a.x)) → First before a 0
@@ -103,12 +95,16 @@ module _ (before : Float → Float → Bool)
             (λ h. at_2 h (split a.z a.x a.y y h (f tt)))
             (at_0 (f tt))
 
+-- ---- of floats
+lt_once : (x y : Float) → T (lt x y) → T (not (lt y x))
+lt_once x y h = not_T (lt y x) (λ g. lt_irrefl x (lt_trans x y x h g))
+
+-- where z < x, a number y that is not below x is above z
+lt_split : (z x y : Float) → T (not (is_nan y)) → T (lt z x) → T (not (lt y x)) → T (lt z y)
+lt_split z x y n h k = lt_of_lt_of_le z x y h (le_of_not-lt y x n (le_right z x (le_of_lt z x h)) k)
+
 gt_split : (z x y : Float) → T (not (is_nan y)) → T (gt z x) → T (not (gt y x)) → T (gt z y)
-gt_split z x y n h k = go (lt y z) (λ (f : T (not (lt y z))). clash (lt x y) (lt_split x z y n h f) k)
-  where
-    go : (b : Bool) → (T (not b) → ⊥) → T b
-    go true f = tt
-    go false f = absurd (f tt)
+gt_split z x y n h k = lt_of_le_of_lt y x z (le_of_not-lt x y (le_left x z (le_of_lt x z h)) n k) h
 
 pub first_least : (a : Vec3) → Comparisons.is_nan a ≡ false → First lt a (min_position a)
 unfolding min_position component indexed

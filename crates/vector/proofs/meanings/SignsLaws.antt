@@ -25,7 +25,7 @@ bit_small true = lit≤ tt
 bit_small false = lit≤ tt
 
 mask_bit : (m : BVec3) (i : ℕ) → i ≤ 2 → bit_at (bitmask m) i ≡ bit (test m i).value
-unfolding bitmask test indexed
+unfolding bitmask indexed
 mask_bit m =
     let x = bit_small m.x in
     let y = bit_small m.y in
@@ -33,7 +33,7 @@ mask_bit m =
     by_index (λ (i : ℕ). bit_at (bitmask m) i ≡ bit (test m i).value) (omega arith) (omega arith) (omega arith)
 
 same_bitmask : (m n : BVec3) → ((i : ℕ) → i ≤ 2 → bit_at (bitmask m) i ≡ bit_at (bitmask n) i) → bitmask m ≡ bitmask n
-unfolding bitmask test indexed
+unfolding bitmask indexed
 same_bitmask m n e =
     let same : (i : ℕ) → i ≤ 2 → bit (test m i).value ≡ bit (test n i).value = λ i h. sym (mask_bit m i h) ∙ e i h ∙ mask_bit n i h in
     λ k. same 0 (lit≤ tt) k + same 1 (lit≤ tt) k * 2 + same 2 (lit≤ tt) k * 4
@@ -41,7 +41,7 @@ same_bitmask m n e =
 -- ---- the signs
 signs_agree : (x y z i : ℕ) → i ≤ 2 → T (not (Ieee.is_nan (at (of_patterns x y z) i)))
     → (test (mask (sign_bit x) (sign_bit y) (sign_bit z)) i).value ≡ (test (each_test negative (of_patterns x y z)) i).value
-unfolding component indexed test
+unfolding component indexed
 signs_agree x y z =
     by_index (λ (i : ℕ). T (not (Ieee.is_nan (at v i))) → (test (mask (sign_bit x) (sign_bit y) (sign_bit z)) i).value ≡ (test (each_test negative v) i).value)
     (λ n. sym (sign_of_bits x n))

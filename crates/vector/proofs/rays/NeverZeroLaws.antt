@@ -2,12 +2,10 @@
 -- without a test. Assumes nothing.
 use mathlib.Core.Path.{◌≡◌}
 use mathlib.Core.Bool.{Bool, true, false, cond, not}
-use Prim.Native.Nat.{ℕ}
-use native.Mathlib.Omega.{arith}
 use lib.Dec.{T}
 use lib.Ieee.Fits.{and_r}
+use Rattle.std.specs.Prelude.{Some, None}
 use Rattle.vector.specs.declared.vec3.Vec3.{Vec3}
-use Rattle.vector.specs.declared.vec3.normalizing.Normalized.TheVariants.{Unit, Nothing}
 use Rattle.vector.specs.Comparisons.{is_finite}
 use Rattle.vector.specs.Normalizing.{try_normalize}
 use Rattle.vector.specs.Scaled.{scaled}
@@ -21,13 +19,13 @@ use Rattle.vector.proofs.rays.RefractLaws.{law_r, k_from_test}
 use Rattle.vector.proofs.pairs.PairLaws.{first_never, second_never}
 
 -- what has a direction is neither three zeros nor infinite
-has_direction_lem : (v d : Vec3) → direction_of v ≡ Unit d → T (has_direction v)
+has_direction_lem : (v d : Vec3) → direction_of v ≡ Some d → T (has_direction v)
 unfolding direction_of
 has_direction_lem v d e = go (has_direction v) e
   where
-    go : (b : Bool) → cond b (try_normalize (scaled v)) Nothing ≡ Unit d → T b
+    go : (b : Bool) → cond b (try_normalize (scaled v)) None ≡ Some d → T b
     go true e = tt
-    go false e = let z : ◌≡◌ {A = ℕ} 0 1 = cc in omega arith
+    go false e = cc
 
 never_zero : (v : Vec3) → Refused7Never v → NeverZero v
 never_zero v r =

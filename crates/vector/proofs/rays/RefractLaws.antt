@@ -1,18 +1,16 @@
 -- R: a direction refracted in another, by a ratio from 0.25 to 4 and where k is not below zero, has a direction. Assumes nothing.
-use mathlib.Core.Path.{◌≡◌, refl, sym, ap, subst, subst₂}
-use mathlib.Core.Bool.{Bool, true, false, cond, ◌||◌}
-use Prim.Native.Nat.{ℕ, zero, suc, ◌+◌, ◌*◌, ◌^◌, ◌≤◌}
-use native.Mathlib.Nat.{zero-mul}
-use native.Mathlib.Omega.{arith}
-use lib.Dec.{T, ltb, lt→ltb, lit≤}
-use borrow.Author.Tests.{ltb-false}
+use mathlib.Core.Path.{◌≡◌, refl, sym, ap, subst}
+use mathlib.Core.Bool.{Bool, false, cond}
+use Prim.Native.Nat.{ℕ, ◌*◌, ◌^◌, ◌≤◌}
+use lib.Dec.{T, lit≤}
 use lib.Pow.{pow_pos}
-use lib.Ieee.{Float, nan, inf, fin, binary32, up, down, fits, of_bits, below, level, lt, eq, le}
+use lib.Ieee.{Float, binary32, fits, of_bits, lt, le}
 use lib.Ieee.Bits.{is_true}
 use lib.Ieee.Scale.{finite}
+use Rattle.std.proofs.lemmas.Float.{le_of_not-lt, T_from_false}
 use Rattle.laws.specs.Exact.{negative, size_in}
 use Rattle.laws.proofs.values.ValueLaws.{Value, value_finite}
-use Rattle.laws.proofs.values.FiniteLaws.{between_finite}
+use Rattle.laws.proofs.values.FiniteLaws.{between_finite, finite_number}
 use Rattle.laws.proofs.values.SizeLaws.{value_of_size}
 use Rattle.laws.proofs.values.ValueOrderLaws.{le_sizes, not_below_zero, above_zero}
 use Rattle.vector.specs.declared.vec3.Vec3.{Vec3}
@@ -42,21 +40,7 @@ four_is = (refl, refl)
 
 -- ---- a finite number that is not below zero is zero or more
 pub zero_le : (x : Float) → T (finite x) → lt x zer ≡ false → T (le zer x)
-unfolding le lt eq of_bits
-zero_le nan t h = absurd t
-zero_le (inf s) t h = absurd t
-zero_le (fin s m e) t h = go s (m * up e * 1) (0 * 1 * down e) (zero-mul (down e)) h
-  where
-    or_left : (p q : Bool) → T p → T (p || q)
-    or_left true q t = tt
-    or_left false q t = absurd t
-
-    go : (s : Bool) (a z : ℕ) → z ≡ 0 → below s a false z ≡ false → T (below false z s a || level false z s a)
-    go false zero z d h = subst (λ (n : ℕ). T (below false n false 0 || level false n false 0)) (sym d) tt
-    go false (suc a) z d h = or_left (ltb z (suc a)) (level false z false (suc a)) (lt→ltb z (suc a) (omega arith))
-    go true a z d h =
-        let none : a ≡ 0 = (let l = ltb-false 0 (a + z) h in omega arith) in
-        subst₂ (λ (m n : ℕ). T (level false m true n)) (sym d) (sym none) tt
+zero_le x t h = le_of_not-lt x zer (finite_number x t) (finite_number zer (value_finite zer false 0 D zero_is)) (T_from_false (lt x zer) h)
 
 -- ---- where k is not below zero
 bent_is : (a b : Vec3) (u : Float) → T (le zer (refract_k a b u)) → bent_of a b u ≡ refract a b u

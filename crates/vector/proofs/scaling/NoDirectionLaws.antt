@@ -10,6 +10,7 @@ use lib.Ieee.{Float, nan, inf, fin, binary32, down, size, fits}
 use lib.Ieee.Exact.{round_exact}
 use lib.Ieee.Fits.{up_pos}
 use lib.Ieee.Scale.{finite, round_same}
+use Rattle.std.specs.Prelude.{None}
 use Rattle.laws.specs.Exact.{negative, size_in}
 use Rattle.laws.proofs.values.ValueLaws.{Value}
 use Rattle.laws.proofs.values.SizeLaws.{value_of_size}
@@ -17,7 +18,6 @@ use Rattle.laws.proofs.rounding.ErrorLaws.{rounded}
 use Rattle.scalar.specs.Powers.{times_power, log2}
 use Rattle.scalar.proofs.scaling.PowerLaws.{power_at}
 use Rattle.vector.specs.declared.vec3.Vec3.{Vec3}
-use Rattle.vector.specs.declared.vec3.normalizing.Normalized.TheVariants.{Nothing}
 use Rattle.vector.specs.Vectors.{each}
 use Rattle.vector.specs.Comparisons.{is_finite}
 use Rattle.vector.specs.Products.{length_squared}
@@ -59,12 +59,12 @@ no_length : rounded binary32 (rounded binary32 (rounded binary32 (0 * 0) D + rou
 unfolding rounded size
 no_length = refl
 
-none_scaled : (a : Vec3) → F32Vec a → (FiniteVec a → largest a ≡ 0) → try_normalize (scaled a) ≡ Nothing
+none_scaled : (a : Vec3) → F32Vec a → (FiniteVec a → largest a ≡ 0) → try_normalize (scaled a) ≡ None
 unfolding scaled
 none_scaled a v zeros = go (is_finite a) (finite_all a) (all_finite a)
   where
     -- the answer for a vector whose squared length is zero, infinite or NaN
-    none : (b : Vec3) → T (zero_infinite_or_nan (length_squared b)) → try_normalize b ≡ Nothing
+    none : (b : Vec3) → T (zero_infinite_or_nan (length_squared b)) → try_normalize b ≡ None
     none b t = (none_exactly b).none_if t
 
     still : (n : FiniteVec a) → T (zero_infinite_or_nan (length_squared (each (times_power (log2 (largest a))) a)))
@@ -76,7 +76,7 @@ none_scaled a v zeros = go (is_finite a) (finite_all a) (all_finite a)
         (whole_value 0 0 0 (lit≤ tt) (lit≤ tt) (lit≤ tt) (each (times_power (log2 (largest a))) a) (negative a.x) (negative a.y) (negative a.z)
         (zero_times j a.x v.f32_x n.finite_x (omega arith)) (zero_times j a.y v.f32_y n.finite_y (omega arith)) (zero_times j a.z v.f32_z n.finite_z (omega arith))))
 
-    go : (b : Bool) → (T b → FiniteVec a) → (FiniteVec a → T b) → try_normalize (cond b (each (times_power (log2 (largest a))) a) a) ≡ Nothing
+    go : (b : Bool) → (T b → FiniteVec a) → (FiniteVec a → T b) → try_normalize (cond b (each (times_power (log2 (largest a))) a) a) ≡ None
     go true f g = none (each (times_power (log2 (largest a))) a) (still (f tt))
     go false f g = none a (infinite_none (length_squared a) (λ (t : T (finite (length_squared a))). g (components_finite a t)))
 
@@ -92,6 +92,6 @@ direction_is_scaled a v = go (has_direction a) (λ t. t) (λ t. t)
         none : (n : ℕ) → (0 < n → ⊥) → n ≡ 0
         none n h = omega arith
 
-    go : (b : Bool) → (T b → T (has_direction a)) → (T (has_direction a) → T b) → try_normalize (scaled a) ≡ cond b (try_normalize (scaled a)) Nothing
+    go : (b : Bool) → (T b → T (has_direction a)) → (T (has_direction a) → T b) → try_normalize (scaled a) ≡ cond b (try_normalize (scaled a)) None
     go true f g = refl
     go false f g = none_scaled a v (zeros g)

@@ -11,6 +11,7 @@ use lib.Pow.{pow_pos}
 use lib.Ieee.{Float, binary32, fits, of_bits, le}
 use lib.Ieee.Bits.{is_true}
 use lib.Ieee.Scale.{finite}
+use Rattle.std.specs.Prelude.{Some, None}
 use Rattle.laws.specs.Exact.{negative, size_in}
 use Rattle.laws.proofs.values.ValueLaws.{Value, value_finite}
 use Rattle.laws.proofs.values.SizeLaws.{size_of_value, unsigned_value}
@@ -21,7 +22,6 @@ use Rattle.scalar.specs.Powers.{times_power, larger, log2}
 use Rattle.scalar.proofs.scaling.SizeBitsLaws.{larger_by}
 use Rattle.scalar.proofs.scaling.PowersMeaningLaws.{product_means, log2_low, log2_high}
 use Rattle.vector.specs.declared.vec3.Vec3.{Vec3}
-use Rattle.vector.specs.declared.vec3.normalizing.Normalized.TheVariants.{Unit, Nothing}
 use Rattle.vector.specs.Vectors.{one, each}
 use Rattle.vector.specs.Products.{length_squared}
 use Rattle.vector.specs.Normalizing.{try_normalize}
@@ -232,7 +232,7 @@ module _ (a : Vec3) (v : F32Vec a) (h : T (has_direction a)) where
   enough = one_size (length_squared (scaled a)) number (squared_sign (scaled a)) (squared_fits (scaled a)) brings.squared_least
 
   -- `try_normalize` answers a vector, the product without its test
-  pub unchecked_is : try_normalize (scaled a) ≡ Unit (direction_unchecked a)
+  pub unchecked_is : try_normalize (scaled a) ≡ Some (direction_unchecked a)
   unfolding direction_unchecked
   unchecked_is = normalized_is (scaled a) brings.values number enough
 
@@ -248,6 +248,6 @@ unfolding direction_of
 law_u a v h =
     record {
       direction = direction_unchecked a;
-      is = ap (λ (c : Bool). cond c (try_normalize (scaled a)) Nothing) (is_true (has_direction a) h) ∙ unchecked_is a v h;
+      is = ap (λ (c : Bool). cond c (try_normalize (scaled a)) None) (is_true (has_direction a) h) ∙ unchecked_is a v h;
       unit = unchecked_unit a v h;
     }

@@ -59,7 +59,7 @@ sum_nan (fin false m e) (fin false n d) p q =
 abbrev any_nan : Vec3 → Bool
 any_nan a = is_nan a.x || is_nan a.y || is_nan a.z
 
-squared_nan : (a : Vec3) → is_nan (length_squared a) ≡ any_nan a
+pub squared_nan : (a : Vec3) → is_nan (length_squared a) ≡ any_nan a
 unfolding length_squared dot
 squared_nan a =
     let p = mul binary32 a.x a.x in

@@ -9,6 +9,7 @@ use lib.Pow.{pow_pos}
 use lib.Ieee.{Float, binary32, of_bits}
 use lib.Ieee.Bits.{of_bits-fits}
 use lib.Ieee.Scale.{finite}
+use Rattle.std.specs.Prelude.{Some}
 use Rattle.laws.specs.Exact.{size_in}
 use Rattle.laws.proofs.values.ValueLaws.{Value, value_finite}
 use Rattle.laws.proofs.values.SizeLaws.{size_of_value}
@@ -18,7 +19,6 @@ use Rattle.scalar.specs.RootMeaning.{NearestRoot, radicand}
 use Rattle.scalar.proofs.roots.RootMeaningLaws.{root_means}
 use Rattle.scalar.proofs.roots.RootOrderLaws.{root_from, root_to}
 use Rattle.vector.specs.declared.vec3.Vec3.{Vec3}
-use Rattle.vector.specs.declared.vec3.normalizing.Normalized.TheVariants.{Unit}
 use Rattle.vector.specs.Products.{length, length_squared}
 use Rattle.vector.specs.DirectionOf.{direction_of}
 use Rattle.vector.specs.ExactVectors.{F32Vec, UnitWithin}
@@ -95,7 +95,7 @@ module _ (u : Vec3) (a : Exact) (c : ℕ) (few : c ≤ 5000) (r : Reads u a) (ne
   enough : 2 ^ 23 ≤ size_in binary32 l
   enough = le_trans (lit≤ tt) at_least
 
-  pub near_is : F32Vec u → direction_of u ≡ Unit (unit_of u)
+  pub near_is : F32Vec u → direction_of u ≡ Some (unit_of u)
   near_is f = unscaled f ∙ normalized_is u f number enough
 
   pub near_unit : F32Vec u → UnitWithin 15 (unit_of u)

@@ -10,6 +10,7 @@ use lib.Ieee.{Float, nan, inf, fin, binary32, unlike, fits, mul}
 use lib.Ieee.Fits.{mul-fits}
 use lib.Ieee.Positive.{positive, positive_of_value}
 use lib.Ieee.Scale.{finite}
+use Rattle.std.specs.Prelude.{Some}
 use Rattle.laws.specs.Exact.{negative, size_in}
 use Rattle.laws.specs.Within.{Within}
 use Rattle.laws.proofs.numbers.BoolLaws.{not_zero}
@@ -20,7 +21,6 @@ use Rattle.laws.proofs.rounding.ErrorLaws.{rounded, rounded_value, rounded_error
 use Rattle.scalar.specs.Root.{root}
 use Rattle.scalar.proofs.roots.RootErrorLaws.{root_near}
 use Rattle.vector.specs.declared.vec3.Vec3.{Vec3}
-use Rattle.vector.specs.declared.vec3.normalizing.Normalized.TheVariants.{Unit}
 use Rattle.vector.specs.Operators.{mul_number}
 use Rattle.vector.specs.Products.{length, length_squared, length_recip}
 use Rattle.vector.specs.Normalizing.{try_normalize}
@@ -142,5 +142,5 @@ module _ (a : Vec3) (v : F32Vec a) (number : T (finite (length_squared a))) (eno
     near = rw (size_is a.x x_value, size_is a.y y_value, size_is a.z z_value) near_one;
   }
 
-  pub normalized_is : try_normalize a ≡ Unit (unit_of a)
+  pub normalized_is : try_normalize a ≡ Some (unit_of a)
   normalized_is = (none_exactly a).unit (positive_some l squared_positive)

@@ -8,28 +8,32 @@ use scalar::sign::{is_finite, is_nan};
 
 impl Vec3 {
     // self == rhs, for each element
-    pub fn cmpeq(self, rhs: Vec3) -> BVec3
+    #[tactic(auto, unfolding(crate::specs::Comparisons::cmpeq))]
+    pub fn cmpeq(self, rhs: Self) -> BVec3
         ensures { result ≡ Comparisons.cmpeq self rhs }
     {
         BVec3::new(self.x == rhs.x, self.y == rhs.y, self.z == rhs.z)
     }
 
     // self >= rhs, for each element
-    pub fn cmpge(self, rhs: Vec3) -> BVec3
+    #[tactic(auto, unfolding(crate::specs::Comparisons::cmpge))]
+    pub fn cmpge(self, rhs: Self) -> BVec3
         ensures { result ≡ Comparisons.cmpge self rhs }
     {
         BVec3::new(self.x >= rhs.x, self.y >= rhs.y, self.z >= rhs.z)
     }
 
     // self <= rhs, for each element
-    pub fn cmple(self, rhs: Vec3) -> BVec3
+    #[tactic(auto, unfolding(crate::specs::Comparisons::cmple))]
+    pub fn cmple(self, rhs: Self) -> BVec3
         ensures { result ≡ Comparisons.cmple self rhs }
     {
         BVec3::new(self.x <= rhs.x, self.y <= rhs.y, self.z <= rhs.z)
     }
 
     // self < rhs, for each element
-    pub fn cmplt(self, rhs: Vec3) -> BVec3
+    #[tactic(auto, unfolding(crate::specs::Comparisons::cmplt))]
+    pub fn cmplt(self, rhs: Self) -> BVec3
         ensures { result ≡ Comparisons.cmplt self rhs }
     {
         BVec3::new(self.x < rhs.x, self.y < rhs.y, self.z < rhs.z)
@@ -44,6 +48,7 @@ impl Vec3 {
     }
 
     // Which elements are finite.
+    #[tactic(auto, unfolding(crate::specs::Comparisons::is_finite_mask))]
     pub fn is_finite_mask(self) -> BVec3
         ensures { result ≡ Comparisons.is_finite_mask self }
     {
@@ -59,6 +64,7 @@ impl Vec3 {
     }
 
     // Which elements are NaNs.
+    #[tactic(auto, unfolding(crate::specs::Comparisons::is_nan_mask))]
     pub fn is_nan_mask(self) -> BVec3
         ensures { result ≡ Comparisons.is_nan_mask self }
     {

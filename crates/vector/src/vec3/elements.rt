@@ -1,11 +1,12 @@
 // Elements: chosen by a mask, the least and the greatest.
-ghost use Rattle.std.specs.Prelude.{◌≡◌};
+ghost use Rattle.std.specs.Prelude.{◌≡◌, Bool, Float};
 ghost use Rattle.vector.specs.Elements as Elements;
 
 use crate::bvec3::BVec3;
 use crate::vec3::Vec3;
 
 // a < b ? a : b
+#[tactic(auto, unfolding(crate::specs::Elements::lesser))]
 fn min(a: f32, b: f32) -> f32
     ensures { result ≡ Elements.lesser a b }
 {
@@ -13,6 +14,7 @@ fn min(a: f32, b: f32) -> f32
 }
 
 // a > b ? a : b
+#[tactic(auto, unfolding(crate::specs::Elements::greater))]
 fn max(a: f32, b: f32) -> f32
     ensures { result ≡ Elements.greater a b }
 {
@@ -22,10 +24,10 @@ fn max(a: f32, b: f32) -> f32
 impl Vec3 {
     // A true element of the mask takes the element of if_true, a false one that of if_false.
     #[tactic(auto, unfolding(crate::specs::Elements::select))]
-    pub fn select(mask: BVec3, if_true: Vec3, if_false: Vec3) -> Vec3
+    pub fn select(mask: BVec3, if_true: Self, if_false: Self) -> Self
         ensures { result ≡ Elements.select mask if_true if_false }
     {
-        Vec3 {
+        Self {
             x: if mask.x { if_true.x } else { if_false.x },
             y: if mask.y { if_true.y } else { if_false.y },
             z: if mask.z { if_true.z } else { if_false.z },
@@ -33,35 +35,31 @@ impl Vec3 {
     }
 
     // The lesser of the elements of self and rhs.
-    pub fn min(self, rhs: Vec3) -> Vec3
+    #[tactic(auto, unfolding(crate::specs::Elements::min))]
+    pub fn min(self, rhs: Self) -> Self
         ensures { result ≡ Elements.min self rhs }
     {
-        Vec3 {
-            x: min(self.x, rhs.x),
-            y: min(self.y, rhs.y),
-            z: min(self.z, rhs.z),
-        }
+        self.zip_with(rhs, min)
     }
 
     // The greater of the elements of self and rhs.
-    pub fn max(self, rhs: Vec3) -> Vec3
+    #[tactic(auto, unfolding(crate::specs::Elements::max))]
+    pub fn max(self, rhs: Self) -> Self
         ensures { result ≡ Elements.max self rhs }
     {
-        Vec3 {
-            x: max(self.x, rhs.x),
-            y: max(self.y, rhs.y),
-            z: max(self.z, rhs.z),
-        }
+        self.zip_with(rhs, max)
     }
 
     // Each element brought between those of min and max.
-    pub fn clamp(self, min: Vec3, max: Vec3) -> Vec3
+    #[tactic(auto, unfolding(crate::specs::Elements::clamp))]
+    pub fn clamp(self, min: Self, max: Self) -> Self
         ensures { result ≡ Elements.clamp self min max }
     {
         self.max(min).min(max)
     }
 
     // The least element.
+    #[tactic(auto, unfolding(crate::specs::Elements::min_element))]
     pub fn min_element(self) -> f32
         ensures { result ≡ Elements.min_element self }
     {
@@ -69,6 +67,7 @@ impl Vec3 {
     }
 
     // The greatest element.
+    #[tactic(auto, unfolding(crate::specs::Elements::max_element))]
     pub fn max_element(self) -> f32
         ensures { result ≡ Elements.max_element self }
     {
@@ -76,34 +75,35 @@ impl Vec3 {
     }
 
     // The index of the first least element.
-    #[tactic(auto, unfolding(crate::specs::Elements::min_position, crate::specs::Elements::position))]
+    #[tactic(auto, unfolding(crate::specs::Elements::min_position))]
     pub fn min_position(self) -> u32
         ensures { result ≡ Elements.min_position self }
     {
-        let mut min = self.x;
-        let mut index = 0;
-        if self.y < min {
-            min = self.y;
-            index = 1;
-        }
-        if self.z < min {
-            index = 2;
-        }
-        index
+        self.position(|a, b| a < b)
     }
 
     // The index of the first greatest element.
-    #[tactic(auto, unfolding(crate::specs::Elements::max_position, crate::specs::Elements::position))]
+    #[tactic(auto, unfolding(crate::specs::Elements::max_position))]
     pub fn max_position(self) -> u32
         ensures { result ≡ Elements.max_position self }
     {
-        let mut max = self.x;
+        self.position(|a, b| a > b)
+    }
+
+    // The index of the first element that no other comes before.
+    #[tactic(auto, unfolding(crate::specs::Elements::position))]
+    fn position<F: Fn(f32, f32) -> bool>(self, before: F) -> u32
+        requires { F.IsAlwaysCallable before }
+        ensures { (p : Float → Float → Bool) → ((a b : Float) (r : Bool) → F.post before a b r → r ≡ p a b)
+            → result ≡ Elements.position p self }
+    {
+        let mut first = self.x;
         let mut index = 0;
-        if self.y > max {
-            max = self.y;
+        if before(self.y, first) {
+            first = self.y;
             index = 1;
         }
-        if self.z > max {
+        if before(self.z, first) {
             index = 2;
         }
         index

@@ -8,37 +8,40 @@ use scalar::sign::abs;
 
 impl Vec3 {
     // From self, s = 0.0, to rhs, s = 1.0, along a line.
-    pub fn lerp(self, rhs: Vec3, s: f32) -> Vec3
+    #[tactic(auto, unfolding(crate::specs::Interpolation::lerp))]
+    pub fn lerp(self, rhs: Self, s: f32) -> Self
         ensures { result ≡ Interpolation.lerp self rhs s }
     {
-        self.mul_f32(1.0 - s).add(rhs.mul_f32(s))
+        self * (1.0 - s) + rhs * s
     }
 
     // From self by d towards rhs; rhs itself where it is no further off than d or 1e-4.
     #[tactic(auto, unfolding(crate::specs::Interpolation::move_towards))]
-    pub fn move_towards(self, rhs: Vec3, d: f32) -> Vec3
+    pub fn move_towards(self, rhs: Self, d: f32) -> Self
         ensures { result ≡ Interpolation.move_towards self rhs d }
     {
-        let a = rhs.sub(self);
+        let a = rhs - self;
         let len = a.length();
         if len <= d || len <= 1e-4 {
             return rhs;
         }
-        self.add(a.div_f32(len).mul_f32(d))
+        self + a / len * d
     }
 
     // Half of the sum.
-    pub fn midpoint(self, rhs: Vec3) -> Vec3
+    #[tactic(auto, unfolding(crate::specs::Interpolation::midpoint))]
+    pub fn midpoint(self, rhs: Self) -> Self
         ensures { result ≡ Interpolation.midpoint self rhs }
     {
-        self.add(rhs).mul_f32(0.5)
+        (self + rhs) * 0.5
     }
 
     // Whether no component differs by more than max_abs_diff.
-    pub fn abs_diff_eq(self, rhs: Vec3, max_abs_diff: f32) -> bool
+    #[tactic(auto, unfolding(crate::specs::Interpolation::abs_diff_eq))]
+    pub fn abs_diff_eq(self, rhs: Self, max_abs_diff: f32) -> bool
         ensures { result ≡ Interpolation.abs_diff_eq self rhs max_abs_diff }
     {
-        let d = self.sub(rhs);
+        let d = self - rhs;
         let x = abs(d.x) <= max_abs_diff;
         let y = abs(d.y) <= max_abs_diff;
         let z = abs(d.z) <= max_abs_diff;
@@ -46,10 +49,11 @@ impl Vec3 {
     }
 
     // self * a + b, rounded once in each component.
-    pub fn mul_add(self, a: Vec3, b: Vec3) -> Vec3
+    #[tactic(auto, unfolding(crate::specs::Interpolation::mul_add))]
+    pub fn mul_add(self, a: Self, b: Self) -> Self
         ensures { result ≡ Interpolation.mul_add self a b }
     {
-        Vec3 {
+        Self {
             x: fused::mul_add(self.x, a.x, b.x),
             y: fused::mul_add(self.y, a.y, b.y),
             z: fused::mul_add(self.z, a.z, b.z),

@@ -9,12 +9,13 @@ use scalar::root::sqrt;
 fn at_length(a: Vec3, length_sq: f32, bound: f32) -> Vec3
     ensures { result ≡ LengthClamps.at_length bound a length_sq }
 {
-    Vec3::f32_mul(bound, a.div_f32(sqrt(length_sq)))
+    bound * (a / sqrt(length_sq))
 }
 
 impl Vec3 {
     // A vector with a length no less than min and no more than max.
-    pub fn clamp_length(self, min: f32, max: f32) -> Vec3
+    #[tactic(auto, unfolding(crate::specs::LengthClamps::clamp_length))]
+    pub fn clamp_length(self, min: f32, max: f32) -> Self
         ensures { result ≡ LengthClamps.clamp_length self min max }
     {
         let length_sq = self.length_squared();
@@ -28,7 +29,8 @@ impl Vec3 {
     }
 
     // A vector with a length no more than max.
-    pub fn clamp_length_max(self, max: f32) -> Vec3
+    #[tactic(auto, unfolding(crate::specs::LengthClamps::clamp_length_max))]
+    pub fn clamp_length_max(self, max: f32) -> Self
         ensures { result ≡ LengthClamps.clamp_length_max self max }
     {
         let length_sq = self.length_squared();
@@ -40,7 +42,8 @@ impl Vec3 {
     }
 
     // A vector with a length no less than min.
-    pub fn clamp_length_min(self, min: f32) -> Vec3
+    #[tactic(auto, unfolding(crate::specs::LengthClamps::clamp_length_min))]
+    pub fn clamp_length_min(self, min: f32) -> Self
         ensures { result ≡ LengthClamps.clamp_length_min self min }
     {
         let length_sq = self.length_squared();

@@ -1,117 +1,116 @@
-// The operators of src/f32/vec3.rs, as named methods.
+// The operators of src/f32/vec3.rs.
 ghost use Rattle.std.specs.Prelude.{◌≡◌};
 ghost use Rattle.vector.specs.Operators as Operators;
 
 use crate::vec3::Vec3;
+use std::ops::{Add, Div, Mul, Neg, Sub};
 
-impl Vec3 {
-    // self + rhs
-    pub fn add(self, rhs: Vec3) -> Vec3
-        ensures { result ≡ Operators.add self rhs }
-    {
-        Vec3 {
-            x: self.x + rhs.x,
-            y: self.y + rhs.y,
-            z: self.z + rhs.z,
-        }
+impl Add for Vec3 {
+    type Output = Self;
+
+    ghost add_gives = { λ a b r. r ≡ Operators.add a b };
+
+    #[tactic(auto, unfolding(crate::specs::Operators::add))]
+    fn add(self, rhs: Self) -> Self {
+        self.zip_with(rhs, |a, b| a + b)
     }
+}
 
-    // self - rhs
-    pub fn sub(self, rhs: Vec3) -> Vec3
-        ensures { result ≡ Operators.sub self rhs }
-    {
-        Vec3 {
-            x: self.x - rhs.x,
-            y: self.y - rhs.y,
-            z: self.z - rhs.z,
-        }
+impl Add<f32> for Vec3 {
+    type Output = Self;
+
+    ghost add_gives = { λ a k r. r ≡ Operators.add_number a k };
+
+    #[tactic(auto, unfolding(crate::specs::Operators::add_number))]
+    fn add(self, rhs: f32) -> Self {
+        self.map(|v| v + rhs)
     }
+}
 
-    // self * rhs
-    pub fn mul(self, rhs: Vec3) -> Vec3
-        ensures { result ≡ Operators.mul self rhs }
-    {
-        Vec3 {
-            x: self.x * rhs.x,
-            y: self.y * rhs.y,
-            z: self.z * rhs.z,
-        }
+impl Sub for Vec3 {
+    type Output = Self;
+
+    ghost sub_gives = { λ a b r. r ≡ Operators.sub a b };
+
+    #[tactic(auto, unfolding(crate::specs::Operators::sub))]
+    fn sub(self, rhs: Self) -> Self {
+        self.zip_with(rhs, |a, b| a - b)
     }
+}
 
-    // self / rhs
-    pub fn div(self, rhs: Vec3) -> Vec3
-        ensures { result ≡ Operators.div self rhs }
-    {
-        Vec3 {
-            x: self.x / rhs.x,
-            y: self.y / rhs.y,
-            z: self.z / rhs.z,
-        }
+impl Sub<f32> for Vec3 {
+    type Output = Self;
+
+    ghost sub_gives = { λ a k r. r ≡ Operators.sub_number a k };
+
+    #[tactic(auto, unfolding(crate::specs::Operators::sub_number))]
+    fn sub(self, rhs: f32) -> Self {
+        self.map(|v| v - rhs)
     }
+}
 
-    // self + rhs, rhs a number
-    pub fn add_f32(self, rhs: f32) -> Vec3
-        ensures { result ≡ Operators.add_number self rhs }
-    {
-        Vec3 {
-            x: self.x + rhs,
-            y: self.y + rhs,
-            z: self.z + rhs,
-        }
+impl Mul for Vec3 {
+    type Output = Self;
+
+    ghost mul_gives = { λ a b r. r ≡ Operators.mul a b };
+
+    #[tactic(auto, unfolding(crate::specs::Operators::mul))]
+    fn mul(self, rhs: Self) -> Self {
+        self.zip_with(rhs, |a, b| a * b)
     }
+}
 
-    // self - rhs, rhs a number
-    pub fn sub_f32(self, rhs: f32) -> Vec3
-        ensures { result ≡ Operators.sub_number self rhs }
-    {
-        Vec3 {
-            x: self.x - rhs,
-            y: self.y - rhs,
-            z: self.z - rhs,
-        }
+impl Mul<f32> for Vec3 {
+    type Output = Self;
+
+    ghost mul_gives = { λ a k r. r ≡ Operators.mul_number a k };
+
+    #[tactic(auto, unfolding(crate::specs::Operators::mul_number))]
+    fn mul(self, rhs: f32) -> Self {
+        self.map(|v| v * rhs)
     }
+}
 
-    // self * rhs, rhs a number
-    pub fn mul_f32(self, rhs: f32) -> Vec3
-        ensures { result ≡ Operators.mul_number self rhs }
-    {
-        Vec3 {
-            x: self.x * rhs,
-            y: self.y * rhs,
-            z: self.z * rhs,
-        }
+impl Mul<Vec3> for f32 {
+    type Output = Vec3;
+
+    ghost mul_gives = { λ k a r. r ≡ Operators.number_mul k a };
+
+    #[tactic(auto, unfolding(crate::specs::Operators::number_mul))]
+    fn mul(self, rhs: Vec3) -> Vec3 {
+        rhs.map(|v| self * v)
     }
+}
 
-    // self / rhs, rhs a number
-    pub fn div_f32(self, rhs: f32) -> Vec3
-        ensures { result ≡ Operators.div_number self rhs }
-    {
-        Vec3 {
-            x: self.x / rhs,
-            y: self.y / rhs,
-            z: self.z / rhs,
-        }
+impl Div for Vec3 {
+    type Output = Self;
+
+    ghost div_gives = { λ a b r. r ≡ Operators.div a b };
+
+    #[tactic(auto, unfolding(crate::specs::Operators::div))]
+    fn div(self, rhs: Self) -> Self {
+        self.zip_with(rhs, |a, b| a / b)
     }
+}
 
-    // lhs * rhs, lhs a number
-    pub fn f32_mul(lhs: f32, rhs: Vec3) -> Vec3
-        ensures { result ≡ Operators.number_mul lhs rhs }
-    {
-        Vec3 {
-            x: lhs * rhs.x,
-            y: lhs * rhs.y,
-            z: lhs * rhs.z,
-        }
+impl Div<f32> for Vec3 {
+    type Output = Self;
+
+    ghost div_gives = { λ a k r. r ≡ Operators.div_number a k };
+
+    #[tactic(auto, unfolding(crate::specs::Operators::div_number))]
+    fn div(self, rhs: f32) -> Self {
+        self.map(|v| v / rhs)
     }
+}
 
-    // -self
-    pub fn neg(self) -> Vec3
-        ensures { result ≡ Operators.neg self }
-    {
-        Vec3 {
-            x: -self.x,
-            y: -self.y,
-            z: -self.z,
-        }
+impl Neg for Vec3 {
+    type Output = Self;
+
+    ghost neg_gives = { λ a r. r ≡ Operators.neg a };
+
+    #[tactic(auto, unfolding(crate::specs::Operators::neg))]
+    fn neg(self) -> Self {
+        self.map(|v| -v)
     }
 }

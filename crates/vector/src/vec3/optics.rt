@@ -8,27 +8,31 @@ use scalar::root::sqrt;
 
 impl Vec3 {
     // The reflection of self on a surface with the given normal.
-    pub fn reflect(self, normal: Vec3) -> Vec3
+    #[tactic(auto, unfolding(crate::specs::Optics::reflect))]
+    pub fn reflect(self, normal: Self) -> Self
         ensures { result ≡ Optics.reflect self normal }
     {
-        self.sub(Vec3::f32_mul(2.0 * self.dot(normal), normal))
+        self - 2.0 * self.dot(normal) * normal
     }
 
-    // The refraction of self at a surface with the given normal and ratio of indices eta; ZERO where all is reflected.
-    pub fn refract(self, normal: Vec3, eta: f32) -> Vec3
+    // The refraction of self at a surface with the given normal and ratio of indices eta.
+    // ZERO where all is reflected.
+    #[tactic(auto, unfolding(crate::specs::Optics::refract, crate::specs::Optics::refract_k))]
+    pub fn refract(self, normal: Self, eta: f32) -> Self
         ensures { result ≡ Optics.refract self normal eta }
     {
         let n_dot_i = normal.dot(self);
         let k = 1.0 - eta * eta * (1.0 - n_dot_i * n_dot_i);
         if k >= 0.0 {
-            Vec3::f32_mul(eta, self).sub(Vec3::f32_mul(eta * n_dot_i + sqrt(k), normal))
+            eta * self - (eta * n_dot_i + sqrt(k)) * normal
         } else {
-            Vec3::ZERO
+            Self::ZERO
         }
     }
 
     // The angle between two vectors, in radians.
-    pub fn angle_between(self, rhs: Vec3) -> f32
+    #[tactic(auto, unfolding(crate::specs::Optics::angle_between))]
+    pub fn angle_between(self, rhs: Self) -> f32
         ensures { result ≡ Optics.angle_between self rhs }
     {
         acos_approx(self.dot(rhs) / sqrt(self.length_squared() * rhs.length_squared()))

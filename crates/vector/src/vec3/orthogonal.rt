@@ -14,17 +14,18 @@ pub struct Pair {
 
 impl Vec3 {
     // Some vector that is orthogonal to self.
-    pub fn any_orthogonal_vector(self) -> Vec3
+    #[tactic(auto, unfolding(crate::specs::Orthogonal::any_orthogonal_vector))]
+    pub fn any_orthogonal_vector(self) -> Self
         ensures { result ≡ Orthogonal.any_orthogonal_vector self }
     {
         if abs(self.x) > abs(self.y) {
-            Vec3 {
+            Self {
                 x: -self.z,
                 y: 0.0,
                 z: self.x,
             }
         } else {
-            Vec3 {
+            Self {
                 x: 0.0,
                 y: self.z,
                 z: -self.y,
@@ -33,13 +34,14 @@ impl Vec3 {
     }
 
     // Some unit vector that is orthogonal to the unit vector self.
-    pub fn any_orthonormal_vector(self) -> Vec3
+    #[tactic(auto, unfolding(crate::specs::Orthogonal::any_orthonormal_vector))]
+    pub fn any_orthonormal_vector(self) -> Self
         ensures { result ≡ Orthogonal.any_orthonormal_vector self }
     {
         let sign = signum(self.z);
         let a = -1.0 / (sign + self.z);
         let b = self.x * self.y * a;
-        Vec3 {
+        Self {
             x: b,
             y: sign + self.y * self.y * a,
             z: -self.y,
@@ -47,6 +49,7 @@ impl Vec3 {
     }
 
     // Two vectors that form a right-handed orthonormal basis with the unit vector self.
+    #[tactic(auto, unfolding(crate::specs::Orthogonal::any_orthonormal_pair))]
     pub fn any_orthonormal_pair(self) -> Pair
         ensures { result ≡ Orthogonal.any_orthonormal_pair self }
     {
@@ -54,12 +57,12 @@ impl Vec3 {
         let a = -1.0 / (sign + self.z);
         let b = self.x * self.y * a;
         Pair {
-            first: Vec3 {
+            first: Self {
                 x: 1.0 + sign * self.x * self.x * a,
                 y: sign * b,
                 z: -sign * self.x,
             },
-            second: Vec3 {
+            second: Self {
                 x: b,
                 y: sign + self.y * self.y * a,
                 z: -self.y,

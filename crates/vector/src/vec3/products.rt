@@ -7,17 +7,19 @@ use scalar::root::{MarkedRoot, sqrt, sqrt_and_exactness};
 
 impl Vec3 {
     // The dot product.
-    pub fn dot(self, rhs: Vec3) -> f32
+    #[tactic(auto, unfolding(crate::specs::Products::dot))]
+    pub fn dot(self, rhs: Self) -> f32
         ensures { result ≡ Products.dot self rhs }
     {
         (self.x * rhs.x) + (self.y * rhs.y) + (self.z * rhs.z)
     }
 
     // The cross product.
-    pub fn cross(self, rhs: Vec3) -> Vec3
+    #[tactic(auto, unfolding(crate::specs::Products::cross))]
+    pub fn cross(self, rhs: Self) -> Self
         ensures { result ≡ Products.cross self rhs }
     {
-        Vec3 {
+        Self {
             x: self.y * rhs.z - rhs.y * self.z,
             y: self.z * rhs.x - rhs.z * self.x,
             z: self.x * rhs.y - rhs.x * self.y,
@@ -25,6 +27,7 @@ impl Vec3 {
     }
 
     // The length, by a root.
+    #[tactic(auto, unfolding(crate::specs::Products::length))]
     pub fn length(self) -> f32
         ensures { result ≡ Products.length self }
     {
@@ -32,6 +35,7 @@ impl Vec3 {
     }
 
     // The length, and whether its root is exact.
+    #[tactic(auto, unfolding(crate::specs::Products::length_and_exactness))]
     pub fn length_and_exactness(self) -> MarkedRoot
         ensures { result ≡ Products.length_and_exactness self }
     {
@@ -39,6 +43,7 @@ impl Vec3 {
     }
 
     // The squared length.
+    #[tactic(auto, unfolding(crate::specs::Products::length_squared))]
     pub fn length_squared(self) -> f32
         ensures { result ≡ Products.length_squared self }
     {
@@ -46,6 +51,7 @@ impl Vec3 {
     }
 
     // 1.0 divided by the length.
+    #[tactic(auto, unfolding(crate::specs::Products::length_recip))]
     pub fn length_recip(self) -> f32
         ensures { result ≡ Products.length_recip self }
     {
@@ -53,23 +59,26 @@ impl Vec3 {
     }
 
     // The distance between two points.
-    pub fn distance(self, rhs: Vec3) -> f32
+    #[tactic(auto, unfolding(crate::specs::Products::distance))]
+    pub fn distance(self, rhs: Self) -> f32
         ensures { result ≡ Products.distance self rhs }
     {
-        self.sub(rhs).length()
+        (self - rhs).length()
     }
 
     // The distance between two points, and whether its root is exact.
-    pub fn distance_and_exactness(self, rhs: Vec3) -> MarkedRoot
+    #[tactic(auto, unfolding(crate::specs::Products::distance_and_exactness))]
+    pub fn distance_and_exactness(self, rhs: Self) -> MarkedRoot
         ensures { result ≡ Products.distance_and_exactness self rhs }
     {
-        self.sub(rhs).length_and_exactness()
+        (self - rhs).length_and_exactness()
     }
 
     // The squared distance between two points.
-    pub fn distance_squared(self, rhs: Vec3) -> f32
+    #[tactic(auto, unfolding(crate::specs::Products::distance_squared))]
+    pub fn distance_squared(self, rhs: Self) -> f32
         ensures { result ≡ Products.distance_squared self rhs }
     {
-        self.sub(rhs).length_squared()
+        (self - rhs).length_squared()
     }
 }

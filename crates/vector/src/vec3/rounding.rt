@@ -7,96 +7,82 @@ use scalar::{euclid, integral};
 
 impl Vec3 {
     // The quotients of a division with a remainder.
-    pub fn div_euclid(self, rhs: Vec3) -> Vec3
+    #[tactic(auto, unfolding(crate::specs::Rounding::div_euclid))]
+    pub fn div_euclid(self, rhs: Self) -> Self
         ensures { result ≡ Rounding.div_euclid self rhs }
     {
-        Vec3 {
-            x: euclid::div_euclid(self.x, rhs.x),
-            y: euclid::div_euclid(self.y, rhs.y),
-            z: euclid::div_euclid(self.z, rhs.z),
-        }
+        self.zip_with(rhs, euclid::div_euclid)
     }
 
     // The remainders of a division with a remainder.
-    pub fn rem_euclid(self, rhs: Vec3) -> Vec3
+    #[tactic(auto, unfolding(crate::specs::Rounding::rem_euclid))]
+    pub fn rem_euclid(self, rhs: Self) -> Self
         ensures { result ≡ Rounding.rem_euclid self rhs }
     {
-        Vec3 {
-            x: euclid::rem_euclid(self.x, rhs.x),
-            y: euclid::rem_euclid(self.y, rhs.y),
-            z: euclid::rem_euclid(self.z, rhs.z),
-        }
+        self.zip_with(rhs, euclid::rem_euclid)
     }
 
     // The nearest whole numbers, ties to even.
-    pub fn round(self) -> Vec3
+    #[tactic(auto, unfolding(crate::specs::Rounding::round))]
+    pub fn round(self) -> Self
         ensures { result ≡ Rounding.round self }
     {
-        Vec3 {
-            x: integral::round(self.x),
-            y: integral::round(self.y),
-            z: integral::round(self.z),
-        }
+        self.map(integral::round)
     }
 
     // The largest whole numbers at or below the components.
-    pub fn floor(self) -> Vec3
+    #[tactic(auto, unfolding(crate::specs::Rounding::floor))]
+    pub fn floor(self) -> Self
         ensures { result ≡ Rounding.floor self }
     {
-        Vec3 {
-            x: integral::floor(self.x),
-            y: integral::floor(self.y),
-            z: integral::floor(self.z),
-        }
+        self.map(integral::floor)
     }
 
     // The components cut toward zero.
-    pub fn trunc(self) -> Vec3
+    #[tactic(auto, unfolding(crate::specs::Rounding::trunc))]
+    pub fn trunc(self) -> Self
         ensures { result ≡ Rounding.trunc self }
     {
-        Vec3 {
-            x: integral::trunc(self.x),
-            y: integral::trunc(self.y),
-            z: integral::trunc(self.z),
-        }
+        self.map(integral::trunc)
     }
 
     // 0.0 where rhs is below self, else 1.0.
-    pub fn step(self, rhs: Vec3) -> Vec3
+    #[tactic(auto, unfolding(crate::specs::Rounding::step))]
+    pub fn step(self, rhs: Self) -> Self
         ensures { result ≡ Rounding.step self rhs }
     {
-        Vec3::select(rhs.cmplt(self), Vec3::ZERO, Vec3::ONE)
+        Self::select(rhs.cmplt(self), Self::ZERO, Self::ONE)
     }
 
     // Each component clamped to 0.0 .. 1.0.
-    pub fn saturate(self) -> Vec3
+    #[tactic(auto, unfolding(crate::specs::Rounding::saturate))]
+    pub fn saturate(self) -> Self
         ensures { result ≡ Rounding.saturate self }
     {
-        self.clamp(Vec3::ZERO, Vec3::ONE)
+        self.clamp(Self::ZERO, Self::ONE)
     }
 
     // The fractional parts, with the signs of the components.
-    pub fn fract(self) -> Vec3
+    #[tactic(auto, unfolding(crate::specs::Rounding::fract))]
+    pub fn fract(self) -> Self
         ensures { result ≡ Rounding.fract self }
     {
-        self.sub(self.trunc())
+        self - self.trunc()
     }
 
     // The fractional parts above the floors.
-    pub fn fract_gl(self) -> Vec3
+    #[tactic(auto, unfolding(crate::specs::Rounding::fract_gl))]
+    pub fn fract_gl(self) -> Self
         ensures { result ≡ Rounding.fract_gl self }
     {
-        self.sub(self.floor())
+        self - self.floor()
     }
 
     // 1.0 divided by each component.
-    pub fn recip(self) -> Vec3
+    #[tactic(auto, unfolding(crate::specs::Rounding::recip))]
+    pub fn recip(self) -> Self
         ensures { result ≡ Rounding.recip self }
     {
-        Vec3 {
-            x: 1.0 / self.x,
-            y: 1.0 / self.y,
-            z: 1.0 / self.z,
-        }
+        self.map(|v| 1.0 / v)
     }
 }

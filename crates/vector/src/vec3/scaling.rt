@@ -1,4 +1,5 @@
-// A vector brought to a largest size of at least 1 and below 2, by a power of two, and the direction that is taken of it without a test.
+// A vector brought to a largest size of at least 1 and below 2, by a power of two,
+// and the direction that is taken of it without a test.
 ghost use Rattle.std.specs.Prelude.{◌≡◌};
 ghost use Rattle.scalar.specs.Powers.{times_power, log2};
 ghost use Rattle.scalar.specs.SizeBits.{largest_bits, size_of_bits};
@@ -10,8 +11,10 @@ use crate::vec3::Vec3;
 use scalar::powers::{largest_bits, log2_of_bits, power_of_two};
 
 impl Vec3 {
-    // Each component times the power of two, rounded once. Zeros stay, and so does a vector that is not finite.
-    pub fn scaled(self) -> Vec3
+    // Each component times the power of two, rounded once.
+    // Zeros stay, and so does a vector that is not finite.
+    #[tactic(auto, using(crate::proofs::scaling::ScaledBits::scaled_other, crate::proofs::scaling::ScaledBits::scaled_by_bits))]
+    pub fn scaled(self) -> Self
         ensures { result ≡ Scaled.scaled self }
     {
         let b = largest_bits(self.x, self.y, self.z);
@@ -21,26 +24,28 @@ impl Vec3 {
         self.scaled_by(b)
     }
 
-    // The direction of a vector that has one. Nothing asks whether it has: of any other the numbers are NaNs and zeros.
-    pub fn direction_unchecked(self) -> Vec3
+    // The direction of a vector that has one. Nothing asks whether it has one:
+    // the numbers of any other are NaNs and zeros.
+    #[tactic(auto, using(crate::proofs::scaling::UncheckedLaws::unchecked_by_bits))]
+    pub fn direction_unchecked(self) -> Self
         ensures { result ≡ DirectionOf.direction_unchecked self }
     {
         let s = self.scaled_by(largest_bits(self.x, self.y, self.z));
-        s.mul_f32(s.length_recip()) // UncheckedLaws.unchecked_by_bits
+        s * s.length_recip() // UncheckedLaws.unchecked_by_bits
     }
 
-    // Each component times the power of two that brings the largest size, which has the bits b, to at least 1 and below 2, rounded once.
-    fn scaled_by(self, b: u32) -> Vec3
+    // Each component times the power of two that brings the largest size to at least 1 and below 2.
+    // The largest size has the bits b. Each product is rounded once.
+    #[tactic(auto, using(crate::proofs::scaling::ScaledByLaws::twice, crate::proofs::scaling::ScaledByLaws::once))]
+    fn scaled_by(self, b: u32) -> Self
         requires { b ≡ largest_bits self.x self.y self.z }
         ensures { result ≡ each (times_power (log2 (size_of_bits b))) self }
     {
         let j = log2_of_bits(b);
         if j < 22 {
-            // the power is above all f32: by 2^127 and then the rest, both exact (PowerTwiceLaws.power_twice)
-            return self
-                .mul_f32(power_of_two(22))
-                .mul_f32(power_of_two(127 + j));
+            // the power is above all f32: 2^127 and then the rest, both exact (ScaledByLaws.twice)
+            return self * power_of_two(22) * power_of_two(127 + j);
         }
-        self.mul_f32(power_of_two(j)) // PowerLaws.power_factor
+        self * power_of_two(j) // ScaledByLaws.once
     }
 }

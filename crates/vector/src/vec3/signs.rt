@@ -1,4 +1,5 @@
-// Signs of the elements. As a float a NaN's sign counts as clear; on bit patterns each NaN has its sign.
+// Signs of the elements. As a float a NaN's sign counts as clear.
+// On bit patterns each NaN has its sign.
 ghost use Rattle.std.specs.Prelude.{◌≡◌};
 ghost use Rattle.vector.specs.Signs as Signs;
 
@@ -9,39 +10,31 @@ use scalar::sign::{abs, copysign, copysign_bits, is_sign_negative, is_sign_negat
 
 impl Vec3 {
     // The absolute value of each element.
-    pub fn abs(self) -> Vec3
+    #[tactic(auto, unfolding(crate::specs::Signs::abs))]
+    pub fn abs(self) -> Self
         ensures { result ≡ Signs.abs self }
     {
-        Vec3 {
-            x: abs(self.x),
-            y: abs(self.y),
-            z: abs(self.z),
-        }
+        self.map(abs)
     }
 
     // 1.0 or -1.0 by the sign bit of each element; a NaN stays.
-    pub fn signum(self) -> Vec3
+    #[tactic(auto, unfolding(crate::specs::Signs::signum))]
+    pub fn signum(self) -> Self
         ensures { result ≡ Signs.signum self }
     {
-        Vec3 {
-            x: signum(self.x),
-            y: signum(self.y),
-            z: signum(self.z),
-        }
+        self.map(signum)
     }
 
     // The elements of self with the signs of rhs.
-    pub fn copysign(self, rhs: Vec3) -> Vec3
+    #[tactic(auto, unfolding(crate::specs::Signs::copysign))]
+    pub fn copysign(self, rhs: Self) -> Self
         ensures { result ≡ Signs.copysign self rhs }
     {
-        Vec3 {
-            x: copysign(self.x, rhs.x),
-            y: copysign(self.y, rhs.y),
-            z: copysign(self.z, rhs.z),
-        }
+        self.zip_with(rhs, copysign)
     }
 
     // A number whose lowest 3 bits are the sign bits, x's the lowest.
+    #[tactic(auto, unfolding(crate::specs::Signs::is_negative_bitmask))]
     pub fn is_negative_bitmask(self) -> u32
         ensures { result ≡ Signs.is_negative_bitmask self }
     {
@@ -54,6 +47,8 @@ impl Vec3 {
     }
 
     // The same of three bit patterns, NaNs included.
+    // Patterns stay numbers x, y, z: the theorem MasksAgree speaks of them so.
+    #[tactic(auto, unfolding(crate::specs::Signs::is_negative_bitmask_bits))]
     pub fn is_negative_bitmask_bits(x: u32, y: u32, z: u32) -> u32
         ensures { result ≡ Signs.is_negative_bitmask_bits x y z }
     {
@@ -64,11 +59,14 @@ impl Vec3 {
         )
         .bitmask()
     }
+
     // The elements x, y, z with the signs of a, b, c, all of them bit patterns, NaNs included.
-    pub fn copysign_bits(x: u32, y: u32, z: u32, a: u32, b: u32, c: u32) -> Vec3
+    // Patterns stay numbers: the theorem CopiesAgree speaks of x, y, z and a, b, c so.
+    #[tactic(auto, unfolding(crate::specs::Signs::copysign_bits))]
+    pub fn copysign_bits(x: u32, y: u32, z: u32, a: u32, b: u32, c: u32) -> Self
         ensures { result ≡ Signs.copysign_bits x y z a b c }
     {
-        Vec3 {
+        Self {
             x: from_bits(copysign_bits(x, a)),
             y: from_bits(copysign_bits(y, b)),
             z: from_bits(copysign_bits(z, c)),

@@ -1,8 +1,0 @@
--- `vector::vec3::Vec3::sub_f32` meets its contract. Assumes nothing.
-use mathlib.Core.Path.{refl}
-use Rattle.vector.specs.Operators.{sub_number}
-use Rattle.vector.proofs.vec3.Vec3.sub_f32.Goals as goal
-
-pub returns : goal.returns
-unfolding sub_number
-returns c = refl
