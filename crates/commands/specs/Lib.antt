@@ -1,5 +1,7 @@
 -- The definitions of crate commands, file by file.
 pub mod Codes
+pub mod KindNumbers
+pub mod RefusalNumbers
 pub mod Rows
 pub mod Fields
 pub mod Planes

@@ -1,11 +1,10 @@
 -- The refusals of a command (document 01, "Refused, and by whose doing"), each with its condition, in the order in which they are checked: "2, 3, 4, 5, 8, 7, 6",
 -- 11 "checked after 3" (document 02, a) and 12 "checked just before 6" (d).
-use Rattle.std.specs.Prelude.{ℕ, Bool, true, false, cond, not, ◌&&◌, ◌||◌, List, [], ◌∷◌, ◌++◌, eqb, ltb, Float}
+use Rattle.std.specs.Prelude.{ℕ, Bool, true, false, cond, not, ◌&&◌, ◌||◌, List, [], ◌∷◌, ◌++◌, eqb, ltb, Option, Some, None, Float}
 use Rattle.std.specs.Float.{binary32}
 use Rattle.std.specs.Float.Ieee.{of_bits, lt, le}
 use Rattle.std.specs.Float.Ieee.Scale.{finite}
-use Rattle.vector.specs.declared.vec3.normalizing.Normalized.{Normalized}
-use Rattle.vector.specs.declared.vec3.normalizing.Normalized.TheVariants.{Unit, Nothing}
+use Rattle.vector.specs.declared.vec3.Vec3.{Vec3}
 use Rattle.vector.specs.Vectors.{zer}
 use Rattle.vector.specs.Comparisons.{is_finite}
 use Rattle.vector.specs.Projections.{other_len_sq_rcp}
@@ -63,9 +62,9 @@ unfoldable pub no_refraction : ℕ → Sources → Bool
 no_refraction n s = eqb n 23 && lt (refract_k s.a.numbers s.b.numbers s.u) zer
 
 -- "7, in 2 .. no direction; in 11 and 12 with b a point, 1/(b·b) not finite; in 28 a `length_squared` of zero"; from 22 to 24 "7 is struck" (document 02, g)
-unfoldable pub is_nothing : Normalized → Bool
-is_nothing (Unit v) = false
-is_nothing Nothing = true
+unfoldable pub is_nothing : Option Vec3 → Bool
+is_nothing (Some v) = false
+is_nothing None = true
 
 unfoldable pub lacks_direction : Result → Bool
 lacks_direction (Aim v) = is_nothing (direction_of v)

@@ -5,10 +5,11 @@ ghost use Rattle.std.specs.Float.{binary32};
 ghost use Rattle.std.specs.Float.Ieee.Scale.{finite};
 ghost use Rattle.commands.specs.Fields.{is_used, allows};
 ghost use Rattle.commands.specs.CommandSets.{in_set, set_of};
+ghost use Rattle.commands.specs.RefusalNumbers.{refusal_number};
 ghost use Rattle.commands.specs.Commands.{entry_at};
 ghost use Rattle.commands.specs.Refusals.{no_row, bad_source, out_of_order, out_of_range, bad_value, first, early};
 
-use crate::codes::{LAST, PLANE, ROW_OUTSIDE, UNFIT_SOURCE, UNKNOWN_COMMAND, VALUE_OUTSIDE};
+use crate::codes::{Kind, LAST, Refusal};
 use crate::command::Command;
 use scalar::bits::from_bits;
 use scalar::sign::is_finite;
@@ -26,207 +27,151 @@ const USE_V: u64 = 0x0000_0602;
 
 const USE_W: u64 = 0x0000_0202;
 
-// The commands that do not take a point, a direction, a plane, or a row of any other kind but empty, as a; those that use a do not take an empty one.
-const A_NOT_POINT: u64 = 0x20_01c0_0000;
+// The commands that do not take a row as a source, by its kind: empty, a point, a direction,
+// a plane, or any other.
+#[derive(Clone, Copy)]
+struct Unfit {
+    empty: u64,
+    point: u64,
+    direction: u64,
+    plane: u64,
+    other: u64,
+}
 
-const A_NOT_DIRECTION: u64 = 0x3c_0000_0000;
-
-const A_NOT_PLANE: u64 = 0x1c_ffff_fffc;
-
-const A_NOT_OTHER: u64 = 0x3c_ffff_fffc;
+// As a.
+const UNFIT_A: Unfit = Unfit {
+    empty: USE_A,
+    point: 0x20_01c0_0000,
+    direction: 0x3c_0000_0000,
+    plane: 0x1c_ffff_fffc,
+    other: 0x3c_ffff_fffc,
+};
 
 // And as b; 32 alone takes a row of another kind, and it does not use b.
-const B_NOT_POINT: u64 = 0x1c_00c0_0000;
+const UNFIT_B: Unfit = Unfit {
+    empty: USE_B,
+    point: 0x1c_00c0_0000,
+    direction: 0x08_0000_0000,
+    plane: 0x14_9ad8_faf8,
+    other: USE_B,
+};
 
-const B_NOT_DIRECTION: u64 = 0x08_0000_0000;
-
-const B_NOT_PLANE: u64 = 0x14_9ad8_faf8;
-
+// Whether n is in a set, a bit for each number up to LAST.
+#[tactic(auto, unfolding(crate::specs::CommandSets::in_set))]
 fn is_in(set: u64, n: u32) -> bool
     ensures { result ≡ in_set set n }
 {
-    if n <= LAST {
-        (set >> n) % 2 == 1
-    } else {
-        false
+    n <= LAST && (set >> n) % 2 == 1
+}
+
+// Which fields a command uses: 36 alone reads the row whose number is field u.
+#[derive(Clone, Copy)]
+struct Uses {
+    t: bool,
+    a: bool,
+    b: bool,
+    row: bool,
+    u: bool,
+    v: bool,
+    w: bool,
+}
+
+impl Uses {
+    fn of(n: u32) -> Uses
+        ensures t { result.t ≡ (entry_at n).uses.t }
+        ensures a { result.a ≡ is_used (entry_at n).uses.a }
+        ensures b { result.b ≡ is_used (entry_at n).uses.b }
+        ensures row { result.row ≡ is_used (entry_at n).uses.row }
+        ensures u { result.u ≡ (entry_at n).uses.u }
+        ensures v { result.v ≡ (entry_at n).uses.v }
+        ensures w { result.w ≡ (entry_at n).uses.w }
+    {
+        Uses {
+            t: is_in(USE_T, n),
+            a: is_in(USE_A, n),
+            b: is_in(USE_B, n),
+            row: n == 36,
+            u: is_in(USE_U, n),
+            v: is_in(USE_V, n),
+            w: is_in(USE_W, n),
+        }
     }
-}
-
-fn uses_t(n: u32) -> bool
-    ensures { result ≡ (entry_at n).uses.t }
-{
-    is_in(USE_T, n)
-}
-
-fn uses_a(n: u32) -> bool
-    ensures { result ≡ is_used (entry_at n).uses.a }
-{
-    is_in(USE_A, n)
-}
-
-fn uses_b(n: u32) -> bool
-    ensures { result ≡ is_used (entry_at n).uses.b }
-{
-    is_in(USE_B, n)
-}
-
-// 36 reads the row whose number is field u.
-fn uses_row(n: u32) -> bool
-    ensures { result ≡ is_used (entry_at n).uses.row }
-{
-    n == 36
-}
-
-fn uses_u(n: u32) -> bool
-    ensures { result ≡ (entry_at n).uses.u }
-{
-    is_in(USE_U, n)
-}
-
-fn uses_v(n: u32) -> bool
-    ensures { result ≡ (entry_at n).uses.v }
-{
-    is_in(USE_V, n)
-}
-
-fn uses_w(n: u32) -> bool
-    ensures { result ≡ (entry_at n).uses.w }
-{
-    is_in(USE_W, n)
 }
 
 // A row that is used and is none of the sheet's.
 fn row_out(used: bool, i: u32) -> bool
     ensures { result ≡ (used && ltb 63 i) }
 {
-    if used { 63 < i } else { false }
+    used && 63 < i
 }
 
 // 24 writes row t + 1 too.
 fn no_next_row(n: u32, t: u32) -> bool
     ensures { result ≡ (eqb n 24 && eqb t 63) }
 {
-    if n == 24 { t == 63 } else { false }
+    n == 24 && t == 63
 }
 
 // "3, a used row above 63, or t = 63 in 24"
+#[tactic(auto, unfolding(crate::specs::Refusals::no_row))]
 fn no_row(c: Command) -> bool
     ensures { result ≡ no_row c }
 {
-    if row_out(uses_t(c.number), c.t) {
-        return true;
-    }
-    if row_out(uses_a(c.number), c.a) {
-        return true;
-    }
-    if row_out(uses_b(c.number), c.b) {
-        return true;
-    }
-    if row_out(uses_row(c.number), c.u) {
-        return true;
-    }
-    no_next_row(c.number, c.t)
+    let uses = Uses::of(c.number);
+    row_out(uses.t, c.t)
+        || row_out(uses.a, c.a)
+        || row_out(uses.b, c.b)
+        || row_out(uses.row, c.u)
+        || no_next_row(c.number, c.t)
 }
 
-// One of five sets, by a row's kind.
-#[tactic(auto, unfolding(crate::specs::CommandSets::set_of))]
-fn set_of(kind: u32, empty: u64, point: u64, direction: u64, plane: u64, other: u64) -> u64
-    ensures { result ≡ set_of «kind» empty point direction plane other }
+// One of the five sets, by a row's kind.
+#[tactic(auto, unfolding(crate::specs::CommandSets::set_of, crate::specs::KindNumbers::kind_of))]
+fn set_of(kind: u32, sets: Unfit) -> u64
+    ensures { result ≡ set_of «kind» sets.empty sets.point sets.direction sets.plane sets.other }
 {
-    match kind {
-        0 => empty,
-        1 => point,
-        2 => direction,
-        6 => plane,
-        _ => other,
+    match Kind::try_from(kind) {
+        Ok(Kind::Empty) => sets.empty,
+        Ok(Kind::Point) => sets.point,
+        Ok(Kind::Direction) => sets.direction,
+        Ok(Kind::Plane) => sets.plane,
+        Err(_) => sets.other,
     }
 }
 
-// Whether the command does not take a row of this kind as a.
-fn bad_a(n: u32, kind: u32) -> bool
-    ensures { result ≡ not (allows (entry_at n).uses.a «kind») }
-{
-    is_in(
-        set_of(
-            kind,
-            USE_A,
-            A_NOT_POINT,
-            A_NOT_DIRECTION,
-            A_NOT_PLANE,
-            A_NOT_OTHER,
-        ),
-        n,
-    )
-}
-
-// And as b.
-fn bad_b(n: u32, kind: u32) -> bool
-    ensures { result ≡ not (allows (entry_at n).uses.b «kind») }
-{
-    is_in(
-        set_of(
-            kind,
-            USE_B,
-            B_NOT_POINT,
-            B_NOT_DIRECTION,
-            B_NOT_PLANE,
-            USE_B,
-        ),
-        n,
-    )
-}
-
-// And as the row whose number is field u.
+// Whether the command does not take a row of this kind as the row whose number is field u.
 fn bad_row(n: u32, kind: u32) -> bool
     ensures { result ≡ not (allows (entry_at n).uses.row «kind») }
 {
-    if uses_row(n) { kind != PLANE } else { false }
+    Uses::of(n).row && kind != u32::from(Kind::Plane)
 }
 
 // "4, a source empty, or no direction in 22 to 24"; "A row called point, direction or plane here must be of that kind, else 4"
 fn bad_source(n: u32, kind_a: u32, kind_b: u32, kind_row: u32) -> bool
     ensures { result ≡ bad_source n kind_a kind_b kind_row }
 {
-    if bad_a(n, kind_a) {
-        return true;
-    }
-    if bad_b(n, kind_b) {
-        return true;
-    }
-    bad_row(n, kind_row)
+    let bad_a = is_in(set_of(kind_a, UNFIT_A), n);
+    let bad_b = is_in(set_of(kind_b, UNFIT_B), n);
+    bad_a || bad_b || bad_row(n, kind_row)
 }
 
 // A value that is used and not finite.
 fn value_bad(used: bool, bits: u32) -> bool
     ensures { result ≡ (used && not (finite (Ieee.of_bits binary32 bits))) }
 {
-    if used {
-        if is_finite(from_bits(bits)) {
-            false
-        } else {
-            true
-        }
-    } else {
-        false
-    }
+    used && !is_finite(from_bits(bits))
 }
 
 // A value that is used and not between two bounds.
 fn out_of_bounds(used: bool, low: f32, x: f32, high: f32) -> bool
     ensures { result ≡ (used && not (Ieee.le low x && Ieee.le x high)) }
 {
-    if used {
-        if low <= x {
-            if x <= high { false } else { true }
-        } else {
-            true
-        }
-    } else {
-        false
-    }
+    // `!(low <= x && x <= high)` makes a command take 1.05 of the time
+    used && if low <= x { !(x <= high) } else { true }
 }
 
 // "in 10 not 0 ≤ u ≤ v"
+#[tactic(auto, unfolding(crate::specs::Refusals::out_of_order))]
 fn out_of_order(n: u32, u: u32, v: u32) -> bool
     ensures { result ≡ out_of_order n (Ieee.of_bits binary32 u) (Ieee.of_bits binary32 v) }
 {
@@ -234,6 +179,7 @@ fn out_of_order(n: u32, u: u32, v: u32) -> bool
 }
 
 // "in 23 u outside 0.25 to 4"
+#[tactic(auto, unfolding(crate::specs::Refusals::out_of_range))]
 fn out_of_range(n: u32, u: u32) -> bool
     ensures { result ≡ out_of_range n (Ieee.of_bits binary32 u) }
 {
@@ -241,39 +187,35 @@ fn out_of_range(n: u32, u: u32) -> bool
 }
 
 // "5, a used value not finite, or in 10 not 0 ≤ u ≤ v, or in 23 u outside 0.25 to 4"
-fn bad_value(n: u32, u: u32, v: u32, w: u32) -> bool
-    ensures { result ≡ bad_value n (Ieee.of_bits binary32 u) (Ieee.of_bits binary32 v) (Ieee.of_bits binary32 w) }
+#[tactic(auto, unfolding(crate::specs::Refusals::bad_value))]
+fn bad_value(c: Command) -> bool
+    ensures { result ≡ bad_value c.number (Ieee.of_bits binary32 c.u) (Ieee.of_bits binary32 c.v) (Ieee.of_bits binary32 c.w) }
 {
-    if value_bad(uses_u(n), u) {
-        return true;
-    }
-    if value_bad(uses_v(n), v) {
-        return true;
-    }
-    if value_bad(uses_w(n), w) {
-        return true;
-    }
-    if out_of_order(n, u, v) {
-        return true;
-    }
-    out_of_range(n, u)
+    let uses = Uses::of(c.number);
+    value_bad(uses.u, c.u)
+        || value_bad(uses.v, c.v)
+        || value_bad(uses.w, c.w)
+        || out_of_order(c.number, c.u, c.v)
+        || out_of_range(c.number, c.u)
 }
 
-// The number of the first of refusals 2, 3, 4 and 5 that holds, from the kinds of the sources, where there is a command to take back; 0 where none does.
-pub(crate) fn refusal(c: Command, kind_a: u32, kind_b: u32, kind_row: u32) -> u32
-    ensures { result ≡ first (early c true kind_a kind_b kind_row) }
+// The first of refusals 2, 3, 4 and 5 that holds, from the kinds of the sources, where there is
+// a command to take back.
+#[tactic(auto, using(crate::proofs::ConditionLaws::some_remembered), unfolding(crate::specs::Refusals::early, crate::specs::Refusals::first, crate::specs::Refusals::nothing_remembered, crate::specs::Refusals::unknown))]
+pub(crate) fn refusal(c: Command, kind_a: u32, kind_b: u32, kind_row: u32) -> Result<(), Refusal>
+    ensures { refusal_number result ≡ first (early c true kind_a kind_b kind_row) }
 {
     if LAST < c.number {
-        return UNKNOWN_COMMAND;
+        return Err(Refusal::UnknownCommand);
     }
     if no_row(c) {
-        return ROW_OUTSIDE;
+        return Err(Refusal::RowOutside);
     }
     if bad_source(c.number, kind_a, kind_b, kind_row) {
-        return UNFIT_SOURCE;
+        return Err(Refusal::UnfitSource);
     }
-    if bad_value(c.number, c.u, c.v, c.w) {
-        return VALUE_OUTSIDE;
+    if bad_value(c) {
+        return Err(Refusal::ValueOutside);
     }
-    0
+    Ok(())
 }

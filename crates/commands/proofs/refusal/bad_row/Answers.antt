@@ -31,8 +31,8 @@ plane_asked Directions kind h = absurd (false≢true h)
 plane_asked Planes kind h = refl
 plane_asked Filled kind h = absurd (false≢true h)
 
-pub returns-then-uses_row : goal.returns-then-uses_row
-returns-then-uses_row c = simp (plane_asked (entry_at c.args.n).uses.row c.args.kind (planes_only c.args.n), ← c.uses_row.ensures, c.if-uses_row.true)
+pub returns-then-of : goal.returns-then-of
+returns-then-of c = simp (plane_asked (entry_at c.args.n).uses.row c.args.kind (planes_only c.args.n), ← c.of.ensures.row, ← c.from.ensures, c.if-of.true)
 
-pub returns-else-uses_row : goal.returns-else-uses_row
-returns-else-uses_row c = simp (plane_asked (entry_at c.args.n).uses.row c.args.kind (planes_only c.args.n), ← c.uses_row.ensures, c.if-uses_row.false)
+pub returns-else-of : goal.returns-else-of
+returns-else-of c = simp (plane_asked (entry_at c.args.n).uses.row c.args.kind (planes_only c.args.n), ← c.of.ensures.row, c.if-of.false)

@@ -22,4 +22,4 @@ unfolding effect_by settled unless lacks_direction not_finite is_nothing effect_
 returns c =
     let held : F32Vec c.args.v = record { f32_x = subst T (sym c.well_formed.0.1.1.0.1) tt; f32_y = subst T (sym c.well_formed.0.1.1.1.0.1) tt; f32_z = subst T (sym c.well_formed.0.1.1.1.1.0.1) tt } in
     let found : c.try_normalize.result ≡ direction_of c.args.v = c.try_normalize.ensures.direction ∙ ap try_normalize c.scaled.ensures ∙ direction_is_scaled c.args.v held in
-    simp (c.in-Unit.is, ← found)
+    simp (c.in-Some.is, ← found)

@@ -1,9 +1,0 @@
--- `commands::refusal::uses_t` meets its contract. Assumes nothing.
-use Rattle.commands.specs.Commands.{Entry, table, entry_at}
-use Rattle.commands.specs.CommandSets.{in_set}
-use Rattle.commands.proofs.CommandSetLaws.{column}
-use Rattle.commands.proofs.refusal.uses_t.Goals as goal
-
-pub returns : goal.returns
-unfolding in_set entry_at table
-returns c = column _ c.args.n (λ (e : Entry). e.uses.t) c.is_in.ensures tt
