@@ -68,7 +68,7 @@ module _ (w : List ℕ) (t : ℕ) where
 
 -- a command leaves as many words, those behind the sheet as they are, and the model's command on the sheet that lies in them
 module _ (w : List ℕ) (c : Command) (l : state_words ≤ length w) where
-  abbrev effect : ModelEffect
+  abbrev pub effect : ModelEffect
   effect = effect_on (model_of w) c
 
   abbrev read : Read
@@ -77,10 +77,10 @@ module _ (w : List ℕ) (c : Command) (l : state_words ≤ length w) where
   abbrev some : Bool
   some = is_some (model_of w).history
 
-  range : InRange c.t effect
+  pub range : InRange c.t effect
   range = target_in_range c read some
 
-  by_effect : lent_step w c ≡ stepped (words_after w c.t effect) (applied (model_of w) c.t effect).answer
+  pub by_effect : lent_step w c ≡ stepped (words_after w c.t effect) (applied (model_of w) c.t effect).answer
   by_effect = sym (lent_by w c effect l refl)
 
   pub length_step : length (lent_step w c).state ≡ length w

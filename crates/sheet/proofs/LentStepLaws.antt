@@ -2,22 +2,28 @@
 use Prim.Native.Nat.{ℕ, ◌+◌, ◌%◌, ◌≤◌, ◌<◌}
 use mathlib.Core.Path.{◌≡◌, refl, sym, ap, ◌∙◌, subst}
 use mathlib.Core.Bool.{Bool, true, false, cond}
-use mathlib.Core.List.{List}
+use mathlib.Core.List.{List, ◌++◌}
 use native.Mathlib.Omega.{arith}
 use borrow.Author.Tests.{lt-ltb, le-ltb}
-use lib.ListN.{length}
+use lib.ListN.{length, take, drop}
 use lib.Ieee.{Float}
 use lib.Seq.{sets}
+use Rattle.std.specs.Prelude.{Result, Ok, Err}
+use Rattle.vector.specs.Vectors.{zer}
 use Rattle.vector.specs.declared.vec3.Vec3.{Vec3}
+use Rattle.commands.specs.declared.codes.Kind.{Kind}
+use Rattle.commands.specs.declared.codes.Refusal.{Refusal}
+use Rattle.commands.specs.KindNumbers.{kind_number}
+use Rattle.commands.specs.RefusalNumbers.{refusal_number}
 use Rattle.commands.specs.declared.row.Row.{Row}
 use Rattle.commands.specs.declared.row.StoredRow.{StoredRow}
 use Rattle.commands.specs.declared.command.Command.{Command}
 use Rattle.commands.specs.declared.command.Answer.{Answer}
-use Rattle.commands.specs.declared.command.Answer.TheVariants.{Shown}
+use Rattle.commands.specs.declared.command.Answer.TheVariants.{Shown, Number, Exact, Whole}
 use Rattle.commands.specs.declared.effects.Effect.{Effect}
 use Rattle.commands.specs.declared.effects.Effect.TheVariants.{Tell, Put, PutTwo, Restore}
 use Rattle.commands.specs.Codes.{row_count, direction_kind, lent_too_short, history_empty}
-use Rattle.commands.specs.Rows.{ModelRow, row, direction, row_of, stored_row, row_at}
+use Rattle.commands.specs.Rows.{ModelRow, row, row_of, stored_row, row_at}
 use Rattle.commands.specs.Fields.{read_of}
 use Rattle.commands.specs.Answers.{refused, answer_of, numbers_of}
 use Rattle.commands.specs.Effects.{ModelEffect, Restores, Tells, command_effect, effect_by}
@@ -29,27 +35,29 @@ use Rattle.sheet.specs.Run.{stepped_at, lent_step_at}
 use Rattle.commands.proofs.CommandLaws.{InRange, target_in_range, effect_rows}
 use Rattle.commands.proofs.table.UnreadLaws.{Source, A, B, U, number_in, row_in}
 use Rattle.commands.proofs.history.EmptyLaws.{unless_empty, by_history}
-use Rattle.sheet.proofs.words.PutLaws.{length_put}
-use Rattle.sheet.proofs.ring.RememberLaws.{length_remembered}
+use Rattle.sheet.proofs.words.ListLaws.{sets_written}
 use Rattle.sheet.proofs.LentLaws.{lent_by}
 
 -- the words are enough, and the program's effect is the model's, but for a 33 that finds nothing
-pub record Found (w : List ℕ) (c : Command) (d : Effect) : Type 0 where
+pub record Found (w : List ℕ) (c : Command) (d : Result Effect Refusal) : Type 0 where
   pub long : state_words ≤ length w
   pub same : effect_on (model_of w) c ≡ unless_empty (is_some (model_of w).history) (effect_by d)
 
-below : (rows : List ModelRow) (i : ℕ) {a : ModelRow} → a ≡ row_at rows (i % 64) → i < row_count → a ≡ row_at rows i
-below rows i e h = let k : i % 64 ≡ i = omega arith in e ∙ ap (row_at rows) k
+below : (rows : List ModelRow) (n : ℕ) {i : ℕ} {a : ModelRow} → i ≡ n % 64 → a ≡ row_at rows i → n < row_count → a ≡ row_at rows n
+below rows n {i} read e h = let k : i ≡ n = omega (arith, read) in e ∙ ap (row_at rows) k
 
 pub found :
-    (w : List ℕ) (c : Command) (a b : Row) (r : StoredRow) (d : Effect)
+    (w : List ℕ) (c : Command) (i j k : ℕ) (a b : Row) (r : StoredRow) (d : Result Effect Refusal)
     → state_words ≤ length w
-    → row_of a ≡ row_at (model_of w).rows (c.a % 64)
-    → row_of b ≡ row_at (model_of w).rows (c.b % 64)
-    → stored_row r ≡ row_at (model_of w).rows (c.u % 64)
+    → i ≡ c.a % 64
+    → j ≡ c.b % 64
+    → k ≡ c.u % 64
+    → row_of a ≡ row_at (model_of w).rows i
+    → row_of b ≡ row_at (model_of w).rows j
+    → stored_row r ≡ row_at (model_of w).rows k
     → effect_by d ≡ command_effect c (read_of a b r) true
     → Found w c d
-found w c a b r d l ea eb er e =
+found w c i j k a b r d l ei ej ek ea eb er e =
     let some = is_some (model_of w).history in
     let read = effect_rows c (read_of a b r) (read_at (model_of w) c) true same in
     record { long = l; same = by_history c (read_at (model_of w) c) some ∙ ap (unless_empty some) (sym (e ∙ read)) }
@@ -58,64 +66,65 @@ found w c a b r d l ea eb er e =
     rows = (model_of w).rows
 
     same : (i : Source) → number_in i c < row_count → row_in i (read_of a b r) ≡ row_in i (read_at (model_of w) c)
-    same A = below rows c.a ea
-    same B = below rows c.b eb
-    same U = below rows c.u er
+    same A = below rows c.a ei ea
+    same B = below rows c.b ej eb
+    same U = below rows c.u ek er
 
-module _ {w : List ℕ} {c : Command} {d : Effect} (f : Found w c d) where
+module _ {w : List ℕ} {c : Command} {d : Result Effect Refusal} (f : Found w c d) where
   abbrev some : Bool
   some = is_some (model_of w).history
 
   -- as the case of the enum that it is
-  by : (e : Effect) → d ≡ e → unless_empty some (effect_by e) ≡ effect_on (model_of w) c
-  by e q = sym (f.same ∙ ap (λ (k : Effect). unless_empty some (effect_by k)) q)
+  by : (e : Result Effect Refusal) → d ≡ e → unless_empty some (effect_by e) ≡ effect_on (model_of w) c
+  by e q = sym (f.same ∙ ap (λ (k : Result Effect Refusal). unless_empty some (effect_by k)) q)
 
   -- what holds of the model's effect
-  holds : (P : ModelEffect → Type 0) → P (effect_on (model_of w) c) → (e : Effect) → d ≡ e → P (unless_empty some (effect_by e))
+  holds : (P : ModelEffect → Type 0) → P (effect_on (model_of w) c) → (e : Result Effect Refusal) → d ≡ e → P (unless_empty some (effect_by e))
   holds P h e q = subst P (sym (by e q)) h
 
-  pub put_range : (kind : ℕ) (v : Vec3) (o : Float) → d ≡ Put kind v o → c.t < row_count
+  pub put_range : (kind : Kind) (v : Vec3) (o : Float) → d ≡ Ok (Put kind v o) → c.t < row_count
   unfolding effect_by
-  put_range kind v o q = holds (InRange c.t) (target_in_range c _ _) (Put kind v o) q
+  put_range kind v o q = holds (InRange c.t) (target_in_range c _ _) (Ok (Put kind v o)) q
 
-  pub two_range : (u v : Vec3) → d ≡ PutTwo u v → c.t + 1 < row_count
+  pub two_range : (u v : Vec3) → d ≡ Ok (PutTwo u v) → c.t + 1 < row_count
   unfolding effect_by
-  two_range u v q = holds (InRange c.t) (target_in_range c _ _) (PutTwo u v) q
+  two_range u v q = holds (InRange c.t) (target_in_range c _ _) (Ok (PutTwo u v)) q
 
-  pub remembered_long : (w₁ : List ℕ) (n : ℕ) → w₁ ≡ remembered w c.t n → state_words ≤ length w₁
-  remembered_long w₁ n e = omega (arith, ap length e, length_remembered w c.t n, f.long)
+  pub refuses : (k : Refusal) → d ≡ Err k → stepped w (answer_of (Err k)) ≡ lent_step w c
+  unfolding applied effect_by words_after answer_of
+  refuses k q = lent_by w c (effect_by (Err k)) f.long (by (Err k) q)
 
-  pub tells : (x : Answer) → d ≡ Tell x → stepped w (answer_of x) ≡ lent_step w c
+  pub tells : (x : Answer) → d ≡ Ok (Tell x) → stepped w (answer_of (Ok x)) ≡ lent_step w c
   unfolding applied effect_by words_after
-  tells x q = lent_by w c (effect_by (Tell x)) f.long (by (Tell x) q)
+  tells x q = lent_by w c (effect_by (Ok (Tell x))) f.long (by (Ok (Tell x)) q)
 
   pub puts :
-      (w₁ w₂ : List ℕ) (kind : ℕ) (v : Vec3) (o : Float)
-      → d ≡ Put kind v o
+      (w₁ w₂ : List ℕ) (n : ℕ) (kind : Kind) (v : Vec3) (o : Float)
+      → d ≡ Ok (Put kind v o)
+      → n ≡ kind_number kind
       → w₁ ≡ remembered w c.t 1
-      → w₂ ≡ put_row w₁ c.t (row kind v o)
-      → stepped w₂ (answer_of (Shown c.t kind v)) ≡ lent_step w c
+      → w₂ ≡ put_row w₁ c.t (row n v o)
+      → stepped w₂ (answer_of (Ok (Shown c.t n v))) ≡ lent_step w c
   unfolding applied effect_by words_after answer_of
-  puts w₁ w₂ kind v o q e g =
-      ap (λ (k : List ℕ). stepped k (answer_of (Shown c.t kind v))) (g ∙ ap (λ (k : List ℕ). put_row k c.t (row kind v o)) e)
-      ∙ lent_by w c (effect_by (Put kind v o)) f.long (by (Put kind v o) q)
+  puts w₁ w₂ n kind v o q k e g =
+      rw (g, e, k) (lent_by w c (effect_by (Ok (Put kind v o))) f.long (by (Ok (Put kind v o)) q))
 
   pub puts_two :
-      (w₁ w₂ w₃ : List ℕ) (u v : Vec3)
-      → d ≡ PutTwo u v
+      (w₁ w₂ w₃ : List ℕ) (n : ℕ) (u v : Vec3)
+      → d ≡ Ok (PutTwo u v)
+      → n ≡ direction_kind
       → w₁ ≡ remembered w c.t 2
-      → w₂ ≡ put_row w₁ c.t (direction u)
-      → w₃ ≡ put_row w₂ (c.t + 1) (direction v)
-      → stepped w₃ (answer_of (Shown c.t direction_kind u)) ≡ lent_step w c
+      → w₂ ≡ put_row w₁ c.t (row n u zer)
+      → w₃ ≡ put_row w₂ (c.t + 1) (row n v zer)
+      → stepped w₃ (answer_of (Ok (Shown c.t n u))) ≡ lent_step w c
   unfolding applied effect_by words_after answer_of
-  puts_two w₁ w₂ w₃ u v q e g h =
-      let first = g ∙ ap (λ (k : List ℕ). put_row k c.t (direction u)) e in
-      ap (λ (k : List ℕ). stepped k (answer_of (Shown c.t direction_kind u))) (h ∙ ap (λ (k : List ℕ). put_row k (c.t + 1) (direction v)) first)
-      ∙ lent_by w c (effect_by (PutTwo u v)) f.long (by (PutTwo u v) q)
+  puts_two w₁ w₂ w₃ n u v q k e g h =
+      rw (h, g, e, k) (lent_by w c (effect_by (Ok (PutTwo u v))) f.long (by (Ok (PutTwo u v)) q))
 
-  pub restores : (w' : List ℕ) (x : Answer) → d ≡ Restore → stepped w' (answer_of x) ≡ undone w → stepped w' (answer_of x) ≡ lent_step w c
+  pub restores :
+      (w' : List ℕ) (x : Result Answer Refusal) → d ≡ Ok Restore → stepped w' (answer_of x) ≡ undone w → stepped w' (answer_of x) ≡ lent_step w c
   unfolding effect_by undone words_after applied
-  restores w' x q e = e ∙ undone_by some ∙ lent_by w c (unless_empty some (effect_by Restore)) f.long (by Restore q)
+  restores w' x q e = e ∙ undone_by some ∙ lent_by w c (unless_empty some (effect_by (Ok Restore))) f.long (by (Ok Restore) q)
     where
       nothing : ModelEffect
       nothing = Tells (refused history_empty)
@@ -137,9 +146,6 @@ module _ (w : List ℕ) where
   unfolding undone
   undone_none h = simp h
 
-pub put_long : (w w' : List ℕ) (i : ℕ) (r : ModelRow) → state_words ≤ length w → w' ≡ put_row w i r → state_words ≤ length w'
-put_long w w' i r l e = omega (arith, ap length e, length_put w i r, l)
-
 -- ---- in numbers
 module _ (w : List ℕ) (c : Command) (out : List ℕ) (at : ℕ) where
   pub at_short : length out < at + 6 → stepped_at w out lent_too_short ≡ lent_step_at w c out at
@@ -152,17 +158,28 @@ module _ (w : List ℕ) (c : Command) (out : List ℕ) (at : ℕ) where
   unfolding lent_step_at
   at_room h = simp (le-ltb (length out) (at + 6) h)
 
+-- the number of an answer's refusal
+refusal_told : (x : Result Answer Refusal) → refusal_number x ≡ (answer_of x).refusal
+unfolding answer_of
+refusal_told (Err k) = refl
+refusal_told (Ok (Shown i k v)) = refl
+refusal_told (Ok (Number n)) = refl
+refusal_told (Ok (Exact n)) = refl
+refusal_told (Ok (Whole n)) = refl
+
 pub done_at :
-    (w w' out out' : List ℕ) (at : ℕ) (c k : Command) (x : Answer) (r : ℕ)
+    (w w' out front rest six : List ℕ) (at : ℕ) (c k : Command) (x : Result Answer Refusal)
     → at + 6 ≤ length out
+    → front ≡ take at out
+    → rest ≡ drop at out
     → c ≡ k
     → stepped w' (answer_of x) ≡ lent_step w c
-    → out' ≡ sets out at (numbers_of (answer_of x))
-    → r ≡ (answer_of x).refusal
-    → stepped_at w' out' r ≡ lent_step_at w k out at
-done_at w w' out out' at c k x r room ec es eo er =
-    ap (λ (l : List ℕ). stepped_at w' l r) eo
-    ∙ ap (stepped_at w' (sets out at (numbers_of (answer_of x)))) er
+    → six ≡ numbers_of (answer_of x)
+    → stepped_at w' (front ++ (six ++ drop 6 rest)) (refusal_number x) ≡ lent_step_at w k out at
+done_at w w' out front rest six at c k x room ef er ec es e =
+    let written : front ++ (six ++ drop 6 rest) ≡ sets out at (numbers_of (answer_of x)) = rw (ef, er, e) (sets_written out at (numbers_of (answer_of x)) room) in
+    ap (λ (l : List ℕ). stepped_at w' l (refusal_number x)) written
+    ∙ ap (stepped_at w' (sets out at (numbers_of (answer_of x)))) (refusal_told x)
     ∙ ap (λ (o : Stepped (List ℕ)). stepped_at o.state (sets out at (numbers_of o.answer)) o.answer.refusal) es
     ∙ at_room w c out at room
     ∙ ap (λ (d : Command). lent_step_at w d out at) ec

@@ -5,3 +5,4 @@ pub mod RunByLaws
 pub mod LentStepLaws
 pub mod LentLaws
 mod RunLaws
+mod FrontLaws

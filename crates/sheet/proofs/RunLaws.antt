@@ -1,14 +1,16 @@
 -- The loop of `run`: one command more, its six numbers written behind what is written, and what is promised once all are done. Assumes nothing.
 use Prim.Native.Nat.{ℕ, zero, suc, ◌+◌, ◌*◌, ◌/◌, ◌%◌, ◌≤◌, ◌<◌}
 use mathlib.Core.Path.{◌≡◌, refl, sym, ap, ◌∙◌, subst}
-use mathlib.Core.Bool.{Bool, true, false, cond, ◌||◌}
+use mathlib.Core.Bool.{Bool, true, false, cond, ◌||◌, true≢false}
 use mathlib.Core.List.{List, [], ◌∷◌, ◌++◌, append_assoc, append-nil}
 use native.Mathlib.Omega.{arith}
 use native.Mathlib.Numerals.{add-one}
 use lib.Dec.{eqb, ltb}
-use borrow.Author.Tests.{ltb-false}
+use borrow.Author.Tests.{ltb-false, eq-eqb}
 use lib.ListN.{length, drop, replicate, length-append, length-drop}
 use lib.Seq.{sets, sets-eq, take-append_seam, drop-append-add, drop-drop}
+use Rattle.commands.specs.declared.codes.Refusal.{Refusal}
+use Rattle.commands.specs.RefusalNumbers.{number_of}
 use Rattle.commands.specs.declared.command.Command.{Command}
 use Rattle.commands.specs.Codes.{ill_formed, lent_too_short}
 use Rattle.commands.specs.Rows.{State, fresh}
@@ -18,6 +20,7 @@ use Rattle.commands.specs.Claim.{Claim}
 use Rattle.sheet.specs.Words.{state_words, model_of, lent_step, lent_run}
 use Rattle.commands.specs.Fields.{command_of}
 use Rattle.sheet.specs.Run.{commands_of, count, list_of, all_numbers_of, SteppedAt, stepped_at, lent_step_at, refusal_of_lengths, list_refusal, Runs, RunsAll}
+use Rattle.commands.proofs.FirstLaws.{number_not_0}
 use Rattle.commands.proofs.ClaimLaws.{model_claim}
 use Rattle.sheet.proofs.words.WordLaws.{zeros_fresh}
 use Rattle.sheet.proofs.RunByLaws.{run_snoc_state, run_snoc_answers}
@@ -145,8 +148,9 @@ run_done w₀ cs out₀ n w out i none h le =
       untouched = λ k e. absurd (omega (arith, e));
     }
 
-pub run_refused : (w₀ cs out₀ : List ℕ) (k : ℕ) → k ≡ list_refusal w₀ cs out₀ → (k ≡ 0 → ⊥) → Runs w₀ cs out₀ w₀ out₀ k
-run_refused w₀ cs out₀ k e some =
+pub run_refused : (w₀ cs out₀ : List ℕ) (k : Refusal) → number_of k ≡ list_refusal w₀ cs out₀ → Runs w₀ cs out₀ w₀ out₀ (number_of k)
+run_refused w₀ cs out₀ k e =
+    let some : number_of k ≡ 0 → ⊥ = λ z. true≢false (sym (eq-eqb (number_of k) 0 z) ∙ number_not_0 k) in
     record { refusal = e; words = λ z. absurd (some z); answers = λ z. absurd (some z); claim = λ z. absurd (some z); untouched = λ j g. (refl, refl) }
 
 -- from words that are all 0

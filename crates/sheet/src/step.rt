@@ -1,84 +1,102 @@
-// One command, in place: its refusal or its effect, and the rows that it writes or brings back. No other function writes rows.
-ghost use Rattle.std.specs.Prelude.{◌≡◌, ◌≤◌, length, drop};
+// One command, in place: its refusal or its effect, and the rows that it writes or brings back.
+// No other function writes rows.
+ghost use Rattle.std.specs.Prelude.{◌≡◌, drop};
 ghost use Rattle.commands.specs.Answers.{answer_of};
 ghost use Rattle.commands.specs.Model.{stepped};
-ghost use Rattle.sheet.specs.Words.{state_words, undone, lent_step};
+ghost use Rattle.commands.specs.RefusalNumbers.{refusal_number};
+ghost use Rattle.sheet.specs.Words.{undone, lent_step};
 ghost use Rattle.commands.specs.Fields.{command_of};
 ghost use Rattle.sheet.specs.Run.{stepped_at, lent_step_at};
 
-use crate::answer::{put_answer, refusal_of};
-use crate::history::{remember_one, remember_two, remembers, restore};
-use crate::rows::{STATE_WORDS, put_row, row_at, stored_at};
-use commands::codes::{DIRECTION, HISTORY_EMPTY, LENT_TOO_SHORT};
+use crate::answer::numbers_of;
+use crate::history::{remember, remembers, restore};
+use crate::rows::{RowIndex, STATE_WORDS, put_row, row_at, stored_at};
+use commands::codes::{Kind, Refusal};
 use commands::command::{Answer, Command, command_at};
 use commands::effects::{Effect, effect_of};
 
-// 33: takes back the latest command that is remembered. "With nothing remembered [it] is refused by 11".
-fn undo(state: &mut [u32]) -> Answer
-    requires { state_words ≤ length state.old }
+// How many numbers a command has.
+pub const COMMAND_NUMBERS: usize = 7;
+
+// 33: takes back the latest command that is remembered. "With nothing remembered [it] is refused
+// by 11".
+#[tactic(auto, using(crate::proofs::LentStepLaws::undone_some, crate::proofs::LentStepLaws::undone_none), unfolding(commands::specs::Answers::answer_of))]
+fn undo(state: &mut [u32; STATE_WORDS]) -> Result<Answer, Refusal>
     ensures { stepped state.new (answer_of result) ≡ undone state.old }
 {
     if remembers(state) {
-        restore(state)
+        Ok(restore(state))
     } else {
-        Answer::Refused(HISTORY_EMPTY)
+        Err(Refusal::HistoryEmpty)
     }
 }
 
-// The command on the sheet that lies in the words. A row above 63 is refused where it is used, and not read where it is not: any row may stand in its place.
-pub fn step(state: &mut [u32], c: Command) -> Answer
+// The command on a sheet. A row above 63 is refused where it is used, and not read where it is not:
+// any row may stand in its place.
+#[tactic(auto, using(crate::proofs::LentStepLaws::found, crate::proofs::LentStepLaws::tells))]
+fn step_sheet(state: &mut [u32; STATE_WORDS], c: Command) -> Result<Answer, Refusal>
     ensures { stepped state.new (answer_of result) ≡ lent_step state.old c }
 {
-    if state.len() < STATE_WORDS {
-        return Answer::Refused(LENT_TOO_SHORT);
-    }
-    let a = (c.a % 64) as usize;
-    let b = (c.b % 64) as usize;
-    let u = (c.u % 64) as usize;
+    let a = RowIndex::of(c.a);
+    let b = RowIndex::of(c.b);
+    let u = RowIndex::of(c.u);
     let row_a = row_at(state, a);
     let row_b = row_at(state, b);
     let row_u = stored_at(state, u);
-    match effect_of(c, row_a, row_b, row_u) {
-        Effect::Tell(x) => x,
+    match effect_of(c, row_a, row_b, row_u)? {
+        Effect::Tell(x) => Ok(x),
         Effect::Put { kind, v, offset } => {
-            let t = c.t as usize;
-            remember_one(state, c.t);
+            let kind = u32::from(kind);
+            let t = RowIndex { at: c.t as usize };
+            remember(state, c.t, 1);
             put_row(state, t, kind, v, offset);
-            Answer::Shown {
-                row: c.t,
-                kind: kind,
-                v: v,
-            }
+            Ok(Answer::Shown { row: c.t, kind, v })
         }
         Effect::PutTwo { v, w } => {
-            let t = c.t as usize;
-            remember_two(state, c.t);
-            put_row(state, t, DIRECTION, v, 0.0);
-            let next = t + 1;
-            put_row(state, next, DIRECTION, w, 0.0);
-            Answer::Shown {
-                row: c.t,
-                kind: DIRECTION,
-                v: v,
-            }
+            let kind = u32::from(Kind::Direction);
+            let t = RowIndex { at: c.t as usize };
+            let next = RowIndex { at: t.at + 1 };
+            remember(state, c.t, 2);
+            put_row(state, t, kind, v, 0.0);
+            put_row(state, next, kind, w, 0.0);
+            Ok(Answer::Shown { row: c.t, kind, v })
         }
         Effect::Restore => undo(state),
     }
 }
 
-// The same in numbers, with no struct and no enum across the call: the seven from `from` on give the command, and its answer's six go to the places from `at` on.
-// Gives the answer's refusal; 9 where there are not so many places, and then nothing is run.
-pub fn step_at(state: &mut [u32], numbers: &[u32], from: usize, out: &mut [u32], at: usize) -> u32
-    ensures { stepped_at state.new out.new result ≡ lent_step_at state.old (command_of (drop from numbers.now)) out.old at }
+// The command on the sheet that lies in the words.
+#[tactic(auto, using(crate::proofs::LentLaws::lent_short), unfolding(commands::specs::Answers::answer_of))]
+pub fn step(state: &mut [u32], c: Command) -> Result<Answer, Refusal>
+    ensures { stepped state.new (answer_of result) ≡ lent_step state.old c }
 {
-    if out.len() < 6 {
-        return LENT_TOO_SHORT;
+    match state.first_chunk_mut() {
+        Some(sheet) => step_sheet(sheet, c),
+        None => Err(Refusal::LentTooShort),
     }
-    if out.len() - 6 < at {
-        return LENT_TOO_SHORT;
+}
+
+// The same in numbers: the seven from `from` on give the command, and its answer's six go to the
+// places from `at` on. Where there are not so many places, it is refused by 9, and nothing is run.
+#[tactic(auto, using(crate::proofs::LentStepLaws::at_short))]
+pub fn step_at(
+    state: &mut [u32],
+    numbers: &[u32],
+    from: usize,
+    out: &mut [u32],
+    at: usize,
+) -> Result<(), Refusal>
+    ensures { stepped_at state.new out.new (refusal_number result) ≡ lent_step_at state.old (command_of (drop from numbers.now)) out.old at }
+{
+    if out.len() < at {
+        return Err(Refusal::LentTooShort);
     }
-    let c = command_at(numbers, from);
-    let x = step(state, c);
-    put_answer(out, at, x);
-    refusal_of(x)
+    let (_, rest) = out.split_at_mut(at);
+    let Some(places) = rest.first_chunk_mut() else {
+        return Err(Refusal::LentTooShort);
+    };
+    let answer = step(state, command_at(numbers, from));
+    *places = numbers_of(answer);
+    answer?;
+    Ok(())
 }

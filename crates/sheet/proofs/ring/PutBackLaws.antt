@@ -44,6 +44,21 @@ module _ (w : List ℕ) (e : ℕ) where
   pub two_target : is_two ≡ true → get_or w e 0 % 63 ≡ target_in w e
   two_target q = rw q refl
 
+  pub rows_few : rows_in w e ≤ 2
+  rows_few = go is_two refl
+    where
+      go : (b : Bool) → is_two ≡ b → rows_in w e ≤ 2
+      go true q = rw q (omega arith)
+      go false q = rw q (omega arith)
+
+  -- they lie among the rows
+  pub target_room : target_in w e * row_width + rows_in w e * row_width ≤ ring_at
+  target_room = go is_two refl
+    where
+      go : (b : Bool) → is_two ≡ b → target_in w e * row_width + rows_in w e * row_width ≤ ring_at
+      go true q = rw q (omega arith)
+      go false q = rw q (omega arith)
+
   pub target_below : (t : ℕ) → t ≡ target_in w e → t < row_count
   target_below t h = go is_two refl
     where
@@ -71,10 +86,5 @@ module _ (w : List ℕ) (e : ℕ) where
       go false q =
           rw (one_put_back q, one_read q) (row_copied row_count (get_or w e 0 % 64) w (drop (e + 2) w) (omega (arith, length-drop (e + 2) w)) (omega arith) (omega arith))
 
-  -- before the ring
   pub back_room : target_in w e * row_width + length (take (rows_in w e * row_width) (drop (e + 2) w)) ≤ ring_at
-  back_room = go is_two refl
-    where
-      go : (b : Bool) → is_two ≡ b → target_in w e * row_width + length (take (rows_in w e * row_width) (drop (e + 2) w)) ≤ ring_at
-      go true q = rw q (omega (arith, length-take (2 * row_width) (drop (e + 2) w)))
-      go false q = rw q (omega (arith, length-take row_width (drop (e + 2) w)))
+  back_room = omega (arith, target_room, length-take (rows_in w e * row_width) (drop (e + 2) w))

@@ -2,6 +2,7 @@
 use Prim.Native.Nat.{ℕ, ◌+◌, ◌*◌, ◌≤◌}
 use mathlib.Core.Path.{◌≡◌, refl, sym, ap, ◌∙◌}
 use mathlib.Core.Bool.{true}
+use Rattle.std.specs.Prelude.{Ok}
 use mathlib.Core.List.{List, [], ◌∷◌}
 use native.Mathlib.Omega.{arith}
 use lib.ListN.{length, take, drop}
@@ -58,14 +59,15 @@ module _ (w : List ℕ) where
       ∙ drop_sets_before state_words w to copied (omega (arith, back_room w at))
 
   latest_left :
-      (w₁ w₂ w₃ : List ℕ) (p : ℕ)
+      (w₁ w₂ w₃ : List ℕ) (p e : ℕ)
       → p ≡ back (next_of w)
-      → w₁ ≡ put_back w (place_at p)
-      → w₂ ≡ sets w₁ (place_at p + 1) (0 ∷ [])
+      → e ≡ place_at p
+      → w₁ ≡ put_back w e
+      → w₂ ≡ sets w₁ (e + 1) (0 ∷ [])
       → w₃ ≡ sets w₂ next_at (p ∷ [])
       → w₃ ≡ taken_back w
   unfolding taken_back
-  latest_left w₁ w₂ w₃ p place rows none next = rw (next, none, rows, place) refl
+  latest_left w₁ w₂ w₃ p e place entry rows none next = rw (next, none, rows, entry, place) refl
 
   module _ (long : state_words ≤ length w) (some : is_some (model_of w).history ≡ true) where
     ring_taken : ring_of w ≡ entry_of (drop at w) ∷ ring_of (taken_back w)
@@ -87,18 +89,19 @@ module _ (w : List ℕ) where
 
     -- by the program's writes, and the row that it then reads
     pub restore_done :
-        (w₁ w₂ w₃ : List ℕ) (p t : ℕ) (r : Row)
+        (w₁ w₂ w₃ : List ℕ) (p e t : ℕ) (r : Row)
         → p ≡ back (next_of w)
-        → w₁ ≡ put_back w (place_at p)
-        → t ≡ target_in w (place_at p)
-        → w₂ ≡ sets w₁ (place_at p + 1) (0 ∷ [])
+        → e ≡ place_at p
+        → w₁ ≡ put_back w e
+        → t ≡ target_in w e
+        → w₂ ≡ sets w₁ (e + 1) (0 ∷ [])
         → w₃ ≡ sets w₂ next_at (p ∷ [])
         → row_of r ≡ row_at (model_of w₃).rows t
-        → stepped w₃ (answer_of (Shown t r.kind r.v)) ≡ stepped (taken_back w) (restored (model_of w) (model_of w).history).answer
+        → stepped w₃ (answer_of (Ok (Shown t r.kind r.v))) ≡ stepped (taken_back w) (restored (model_of w) (model_of w).history).answer
     unfolding answer_of
-    restore_done w₁ w₂ w₃ p t r place rows et none next told =
-        let taken : w₃ ≡ taken_back w = latest_left w₁ w₂ w₃ p place rows none next in
-        let row : t ≡ target_in w at = et ∙ ap (λ (q : ℕ). target_in w (place_at q)) place in
+    restore_done w₁ w₂ w₃ p e t r place entry rows et none next told =
+        let taken : w₃ ≡ taken_back w = latest_left w₁ w₂ w₃ p e place entry rows none next in
+        let row : t ≡ target_in w at = et ∙ ap (target_in w) (entry ∙ ap place_at place) in
         ap (λ (a : ModelRow). stepped w₃ (shown t a)) told
         ∙ ap (λ (l : List ℕ). stepped l (shown t (row_at (model_of l).rows t))) taken
         ∙ ap (λ (k : ℕ). stepped (taken_back w) (shown k (row_at (model_of (taken_back w)).rows k))) row

@@ -1,10 +1,11 @@
 -- Words that are written one after another: what is then read of them, and of the other words. Assumes nothing.
-use Prim.Native.Nat.{ℕ, zero, suc, ◌+◌, ◌-◌, ◌≤◌, ◌<◌}
+use Prim.Native.Nat.{ℕ, zero, suc, ◌+◌, ◌-◌, ◌*◌, ◌≤◌, ◌<◌}
+use Rattle.std.proofs.Common.{◌⊎◌, inl, inr}
 use mathlib.Core.Path.{◌≡◌, refl, sym, ap, ◌∙◌}
 use mathlib.Core.List.{List, [], ◌∷◌, ◌++◌, append_assoc}
 use native.Mathlib.Omega.{arith}
-use lib.ListN.{length, get_or, take, drop, set, length-set}
-use lib.Seq.{sets, sets-eq, drop_at, take-nil, length-take-le, take-add, drop-set-add, drop-set-lt, take-set-le, get_or-set_same, get_or-set_other}
+use lib.ListN.{length, get_or, take, drop, set, length-set, length-drop}
+use lib.Seq.{sets, sets-eq, drop_at, drop-drop, drop-cons, take-nil, length-take-le, take-add, drop-set-add, drop-set-lt, take-set-le, get_or-set_same, get_or-set_other}
 
 -- ---- a word
 get_d_sets_below : (l : List ℕ) (i j : ℕ) (vs : List ℕ) → j < i → get_or (sets l i vs) j 0 ≡ get_or l j 0
@@ -66,3 +67,50 @@ sets_parts l i n k m h =
     let first = take n m in
     let second = take k (drop n m) in
     ap (λ (j : ℕ). sets (sets l i first) (i + j) second) (sym (length-take-le n m h)) ∙ sets_append l i first second ∙ ap (sets l i) (sym (take-add n k m))
+
+-- ---- words copied, five at a time
+pub five_taken :
+    (w : List ℕ) (i : ℕ) → i + 5 ≤ length w
+    → get_or w i 0 ∷ get_or w (i + 1) 0 ∷ get_or w (i + 2) 0 ∷ get_or w (i + 3) 0 ∷ get_or w (i + 4) 0 ∷ [] ≡ take 5 (drop i w)
+five_taken w i h =
+    let e : (k : ℕ) → i + suc k ≡ suc (i + k) = λ k. omega arith in
+    let z : i + 0 ≡ i = omega arith in
+    rw (
+      e 3,
+      e 2,
+      e 1,
+      e 0,
+      z,
+      drop-cons w i 0 (omega arith),
+      drop-cons w (suc i) 0 (omega arith),
+      drop-cons w (suc (suc i)) 0 (omega arith),
+      drop-cons w (suc (suc (suc i))) 0 (omega arith),
+      drop-cons w (suc (suc (suc (suc i)))) 0 (omega arith),
+    ) refl
+
+-- n rows of the words w are copied to v, and one more, which does not lie in the words of the first
+pub five_more :
+    (w v v' : List ℕ) (i j n m : ℕ)
+    → i + m * 5 ≤ length w
+    → n < m
+    → (i + m * 5 ≤ j) ⊎ (j + m * 5 ≤ i)
+    → v ≡ sets w j (take (n * 5) (drop i w))
+    → v' ≡ sets v (j + n * 5) (take 5 (drop (i + n * 5) v))
+    → v' ≡ sets w j (take ((n + 1) * 5) (drop i w))
+five_more w v v' i j n m h lt apart e e' =
+    let first = take (n * 5) (drop i w) in
+    let many : length first ≡ n * 5 = length-take-le (n * 5) (drop i w) (omega (arith, length-drop i w)) in
+    let kept : take 5 (drop (i + n * 5) (sets w j first)) ≡ take 5 (drop (i + n * 5) w) = elim apart [
+      | inl l ↦ part_before 5 (i + n * 5) w j first (omega arith)
+      | inr l ↦ ap (take 5) (drop_sets_before (i + n * 5) w j first (omega arith))
+    ] in
+    let six : n * 5 + 5 ≡ (n + 1) * 5 = omega arith in
+    e'
+    ∙ ap (λ (l : List ℕ). sets l (j + n * 5) (take 5 (drop (i + n * 5) l))) e
+    ∙ ap (sets (sets w j first) (j + n * 5)) (kept ∙ ap (take 5) (sym (drop-drop (n * 5) i w)))
+    ∙ sets_parts w j (n * 5) 5 (drop i w) (omega (arith, length-drop i w))
+    ∙ ap (λ (k : ℕ). sets w j (take k (drop i w))) six
+
+-- ---- others in place of the words from place i on
+pub sets_written : (l : List ℕ) (i : ℕ) (vs : List ℕ) → i + length vs ≤ length l → take i l ++ (vs ++ drop (length vs) (drop i l)) ≡ sets l i vs
+sets_written l i vs h = rw (sets-eq vs l i h, drop-drop (length vs) i l) (sym (append_assoc (take i l) vs (drop (i + length vs) l)))
