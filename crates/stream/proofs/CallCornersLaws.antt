@@ -1,9 +1,8 @@
 -- The cases of calls of specs/CallCorners hold: each is computed from the definitions. Assumes nothing.
-use Rattle.std.specs.Prelude.{refl, [], ◌∷◌, ◌++◌, take, drop, replicate}
-use Rattle.std.proofs.Common.{arith}
+use Rattle.std.specs.Prelude.{refl, Some, [], ◌∷◌, ◌++◌, take, drop, replicate}
 use Rattle.std.specs.Float.Ieee as Ieee
 use Rattle.vector.specs.Comparisons as Comparisons
-use Rattle.commands.specs.Codes.{ill_formed, lent_too_short}
+use Rattle.commands.specs.declared.codes.Refusal.TheVariants.{IllFormed, LentTooShort}
 use Rattle.commands.specs.Commands as Commands
 use Rattle.commands.specs.Refusals as Refusals
 use Rattle.commands.specs.Effects as Effects
@@ -37,6 +36,6 @@ call_corners =
           (feed {w = fresh_words []} (fed first (replicate 43 7) (holds first 20) 20 0 (fresh_words []) (replicate 43 7)) refl
           (feed (fed (drop 20 point ++ (32 ∷ [])) (replicate 43 7) (holds [] 0) 26 43 point_words point_answer) refl
           (feed (fed (32 ∷ []) (replicate 50 7) (holds (32 ∷ []) 1) 1 0 point_words (replicate 50 7)) refl
-          (short (end (replicate 42 7) 0 lent_too_short (replicate 42 7)) refl refl (ended (end (replicate 45 7) 43 ill_formed (ill ++ (7 ∷ 7 ∷ []))) refl (λ e. absurd (omega (arith, e))))))));
+          (short (end (replicate 42 7) 0 (Some LentTooShort) (replicate 42 7)) refl refl (ended (end (replicate 45 7) 43 (Some IllFormed) (ill ++ (7 ∷ 7 ∷ []))) refl (λ e. cc))))));
       by_lines = next {w = fresh_words []} lent_less refl (next {w = fresh_words []} no_byte refl (next {w = fresh_words []} lent_more refl start));
     }

@@ -1,5 +1,6 @@
 -- Calls for document 01's first line, with too few bytes lent now and then: computed from the definitions.
-use Rattle.std.specs.Prelude.{ℕ, List, [], ◌∷◌, ◌++◌, take, replicate}
+use Rattle.std.specs.Prelude.{ℕ, Option, List, [], ◌∷◌, ◌++◌, take, replicate}
+use Rattle.commands.specs.declared.codes.Refusal.{Refusal}
 use Rattle.commands.specs.Codes.{ill_formed, lent_too_short}
 use Rattle.sheet.specs.Words.{fresh_words}
 use Rattle.stream.specs.declared.Stream.{Stream}
@@ -18,7 +19,7 @@ point_words = 1 ∷ 1077936128 ∷ 1082130432 ∷ 0 ∷ 0 ∷ (replicate 315 0 +
 abbrev pub fed : List ℕ → List ℕ → Stream → ℕ → ℕ → List ℕ → List ℕ → FeedCall
 fed bytes before s consumed produced w after = record { bytes = bytes; before = before; result = record { stream = s; consumed = consumed; produced = produced }; words = w; after = after }
 
-abbrev pub end : List ℕ → ℕ → ℕ → List ℕ → EndCall
+abbrev pub end : List ℕ → ℕ → Option Refusal → List ℕ → EndCall
 end before produced refusal after = record { before = before; result = record { produced = produced; refusal = refusal }; after = after }
 
 -- a line of `respond`, without its line feed

@@ -1,8 +1,8 @@
 -- The calls for an input, however its caller cuts it: `feed`, one call after another, and `ended`. What they write is the answer line of each line, by demand 3's
 -- claim of the list of commands that the lines give (document 01, "Lines": "The program reads standard input and answers each line, refused ones included; input
 -- without bytes gives no output").
-use Rattle.std.specs.Prelude.{ℕ, ◌+◌, ◌≤◌, ◌<◌, ◌≡◌, List, [], ◌++◌, length, take, drop}
-use Rattle.commands.specs.Codes.{lent_too_short}
+use Rattle.std.specs.Prelude.{ℕ, ◌+◌, ◌≤◌, ◌<◌, ◌≡◌, Some, List, [], ◌++◌, length, take, drop}
+use Rattle.commands.specs.declared.codes.Refusal.TheVariants.{LentTooShort}
 use Rattle.commands.specs.Rows.{fresh}
 use Rattle.commands.specs.Claim.{Sound, AllWell}
 use Rattle.sheet.specs.Words.{state_words, model_of, fresh_words}
@@ -48,14 +48,14 @@ pub data Calls : List ℕ → Stream → List ℕ → List ℕ → List ℕ → 
   short :
       {w : List ℕ} {s : Stream} {input output w' : List ℕ} (c : EndCall)
       → EndKept s c
-      → c.result.refusal ≡ lent_too_short
+      → c.result.refusal ≡ Some LentTooShort
       → Calls w s input output w'
       → Calls w s input (take c.result.produced c.after ++ output) w'
   -- `ended`, not refused by 9: the last call
   ended :
       {w : List ℕ} {s : Stream} (c : EndCall)
       → EndKept s c
-      → (c.result.refusal ≡ lent_too_short → ⊥)
+      → (c.result.refusal ≡ Some LentTooShort → ⊥)
       → Calls w s [] (take c.result.produced c.after) w
 
 -- ---- what they write: they answer the input that they consume

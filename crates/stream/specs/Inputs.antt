@@ -1,7 +1,7 @@
 -- A whole input: its lines, the commands that they give, and its output (demand 3: "A line is refused by 9 or 1 exactly when document 01 says so; any other runs
 -- the command that its fields give and shows that command's answer").
 use Rattle.std.specs.Prelude.{ℕ, ◌≤◌, ◌≡◌, cond, List, [], ◌∷◌, ◌++◌, eqb, length}
-use Rattle.std.proofs.Math.Option.{Option, none, some}
+use Rattle.std.specs.Prelude.{Option, None as none, Some as some}
 use Rattle.commands.specs.declared.command.Command.{Command}
 use Rattle.commands.specs.Codes.{ill_formed}
 use Rattle.commands.specs.Rows.{State}

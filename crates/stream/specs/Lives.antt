@@ -2,7 +2,7 @@
 -- command that its fields give, and its answer line shows that answer; one they refuse runs none and leaves every row. So the lines of a sheet's life run such
 -- a list").
 use Rattle.std.specs.Prelude.{ℕ, ◌≤◌, ◌<◌, ◌≡◌, List, [], ◌∷◌, ◌++◌, length, drop}
-use Rattle.std.proofs.Math.Option.{none, some}
+use Rattle.std.specs.Prelude.{None as none, Some as some}
 use Rattle.commands.specs.declared.command.Command.{Command}
 use Rattle.commands.specs.Codes.{ill_formed, lent_too_short}
 use Rattle.commands.specs.Rows.{State, fresh}

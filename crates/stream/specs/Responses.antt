@@ -1,7 +1,7 @@
 -- One line (document 01, "The plain sheet": "A line that 9 and 1 don't refuse runs the one command that its fields give, and its answer line shows that
 -- answer; one they refuse runs none and leaves every row"), by any way of doing one command: the reference model's, or that on lent words.
 use Rattle.std.specs.Prelude.{ℕ, ◌≡◌, cond, List, ◌++◌, ltb, length, drop}
-use Rattle.std.proofs.Math.Option.{Option, none, some}
+use Rattle.std.specs.Prelude.{Option, None as none, Some as some}
 use Rattle.commands.specs.declared.command.Command.{Command}
 use Rattle.commands.specs.Codes.{ill_formed, lent_too_short}
 use Rattle.commands.specs.Answers.{ModelAnswer, refused}

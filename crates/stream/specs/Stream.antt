@@ -1,6 +1,8 @@
 -- The bytes of an input, however they come (document 01, "Lines": "The program reads standard input and answers each line, refused ones included"), by any way
 -- of doing one command.
-use Rattle.std.specs.Prelude.{ℕ, suc, ◌-◌, ◌≡◌, cond, List, [], ◌∷◌, ◌++◌, eqb, ltb, length, take, drop}
+use Rattle.std.specs.Prelude.{ℕ, suc, ◌-◌, ◌≡◌, cond, Option, Some, None, List, [], ◌∷◌, ◌++◌, eqb, ltb, length, take, drop}
+use Rattle.commands.specs.declared.codes.Refusal.{Refusal}
+use Rattle.commands.specs.RefusalNumbers.{number_of}
 use Rattle.commands.specs.declared.command.Command.{Command}
 use Rattle.commands.specs.Codes.{ill_formed, lent_too_short}
 use Rattle.commands.specs.Answers.{refused}
@@ -100,8 +102,13 @@ ended_of text out =
     (record { bytes = out; produced = 0; refusal = lent_too_short })
     (record { bytes = end_of text ++ drop answer_length out; produced = answer_length; refusal = ill_formed }))
 
+-- the number of a refusal, 0 for none
+abbrev pub told : Option Refusal → ℕ
+told None = 0
+told (Some k) = number_of k
+
 abbrev pub ended_by : Ended → List ℕ → EndedInto
-ended_by r out = record { bytes = out; produced = r.produced; refusal = r.refusal }
+ended_by r out = record { bytes = out; produced = r.produced; refusal = told r.refusal }
 
 -- `ended` with `out` lent, of the stream s: its result, and the lent bytes afterwards
 abbrev pub EndsInput : Stream → List ℕ → Ended → List ℕ → Type 0

@@ -1,6 +1,6 @@
 -- What functions of this crate promise each other: what the next bytes of an input come to, and an answer line written at a place of the lent bytes.
 use Rattle.std.specs.Prelude.{ℕ, ◌+◌, ◌≤◌, ◌≡◌, List, [], ◌∷◌, ◌++◌, length, get_or, take, drop}
-use Rattle.std.proofs.Math.Option.{none, some}
+use Rattle.std.specs.Prelude.{None as none, Some as some}
 use Rattle.commands.specs.Answers.{ModelAnswer}
 use Rattle.lines.specs.CommandLine.{numbers}
 use Rattle.lines.specs.LineMeaning.{NoLineFeed}

@@ -1,11 +1,12 @@
 // What the next bytes of an input come to.
-ghost use Rattle.std.specs.Prelude.{◌≡◌, ◌+◌, ◌≤◌, ◌<◌, length};
+ghost use Rattle.std.specs.Prelude.{◌≡◌, ◌<◌, length};
 ghost use Rattle.stream.specs.Turns.{Hears};
 
 use lines::command_line::{LINE_LENGTH, fields};
+use sheet::step::COMMAND_NUMBERS;
 
 // The bytes of a command line with its line feed.
-const WITH_FEED: usize = 46;
+const WITH_FEED: usize = LINE_LENGTH + 1;
 
 // The numbers of a line that ends in the next bytes, so many of them; a line that is ill formed; or a byte of a line.
 #[derive(Clone, Copy)]
@@ -16,15 +17,15 @@ pub(crate) enum Heard {
 }
 
 // The next byte, after the bytes of a line that has not ended. The numbers of a line go to f.
-fn hear_byte(bytes: &[u8], i: usize, text: &[u8], f: &mut [u32]) -> Heard
-    requires { (i < length bytes.now) × (length f.old ≡ 7) }
+#[tactic(auto, using(crate::proofs::turns::HearLaws::read_none))]
+fn hear_byte(bytes: &[u8], i: usize, text: &[u8], f: &mut [u32; COMMAND_NUMBERS]) -> Heard
+    requires { i < length bytes.now }
     ensures { Hears bytes.now i text.now f.new result }
 {
     let b = bytes[i];
     if b != b'\n' {
-        return Heard::Byte(b);
-    }
-    if fields(text, f) {
+        Heard::Byte(b)
+    } else if fields(text, f) {
         Heard::Run(1)
     } else {
         Heard::Ill
@@ -32,23 +33,15 @@ fn hear_byte(bytes: &[u8], i: usize, text: &[u8], f: &mut [u32]) -> Heard
 }
 
 // The next bytes. A whole command line that lies in the input is read where it lies.
-pub(crate) fn hear(bytes: &[u8], i: usize, text: &[u8], f: &mut [u32]) -> Heard
-    requires { (i < length bytes.now) × (length f.old ≡ 7) }
+pub(crate) fn hear(bytes: &[u8], i: usize, text: &[u8], f: &mut [u32; COMMAND_NUMBERS]) -> Heard
+    requires { i < length bytes.now }
     ensures { Hears bytes.now i text.now f.new result }
 {
-    if text.len() != 0 {
-        return hear_byte(bytes, i, text, f);
+    if text.is_empty() && WITH_FEED <= bytes.len() - i {
+        let end = i + LINE_LENGTH;
+        if bytes[end] == b'\n' && fields(&bytes[i..end], f) {
+            return Heard::Run(WITH_FEED);
+        }
     }
-    if bytes.len() - i < WITH_FEED {
-        return hear_byte(bytes, i, text, f);
-    }
-    let end = i + LINE_LENGTH;
-    if bytes[end] != b'\n' {
-        return hear_byte(bytes, i, text, f);
-    }
-    if fields(&bytes[i..end], f) {
-        Heard::Run(WITH_FEED)
-    } else {
-        hear_byte(bytes, i, text, f)
-    }
+    hear_byte(bytes, i, text, f)
 }

@@ -7,6 +7,9 @@ use borrow.Author.Tests.{eq-eqb, ne_eqb}
 use lib.Dec.{eqb, ltb}
 use lib.ListN.{length, take, drop}
 use lib.Seq.{take_at}
+use Rattle.std.specs.Prelude.{Option, Some, None}
+use Rattle.commands.specs.declared.codes.Refusal.{Refusal}
+use Rattle.commands.specs.declared.codes.Refusal.TheVariants.{IllFormed, UnknownCommand, RowOutside, UnfitSource, ValueOutside, ResultInfinite, DirectionMissing, AllReflected, LentTooShort, HistoryEmpty, LineParallel}
 use Rattle.commands.specs.declared.command.Command.{Command}
 use Rattle.commands.specs.Codes.{ill_formed, lent_too_short}
 use Rattle.commands.specs.Rows.{State}
@@ -16,7 +19,7 @@ use Rattle.commands.specs.Claim.{Claim}
 use Rattle.commands.proofs.ClaimLaws.{model_claim}
 use Rattle.sheet.specs.Words.{state_words, model_of, fresh_words, lent_step}
 use Rattle.stream.specs.declared.Stream.{Stream}
-use Rattle.stream.specs.Stream.{Held, held, feed_of, consumed_of, FedInto, fed_into, text_of, fed_by, end_of, EndedInto, ended_of, ended_by}
+use Rattle.stream.specs.Stream.{Held, held, feed_of, consumed_of, FedInto, fed_into, text_of, fed_by, end_of, EndedInto, ended_of, told, ended_by}
 use Rattle.stream.specs.Responses.{answer_text}
 use Rattle.stream.specs.Inputs.{cut, commands_in, Answered}
 use Rattle.stream.specs.Calls.{Calls, feed, short, ended, CallsAnswered, FreshAnswered, FreshCallsAnswered}
@@ -74,13 +77,28 @@ module _ (text before : List ℕ) (o : EndedInto) (e : o ≡ ended_of text befor
   ended_last : (o.refusal ≡ lent_too_short → ⊥) → take o.produced o.bytes ≡ end_of text
   ended_last k = rw (ne_eqb _ _ k) at ended_text
 
+-- the refusal that has the number 9
+told_short : (r : Option Refusal) → told r ≡ lent_too_short → r ≡ Some LentTooShort
+told_short None e = cc
+told_short (Some IllFormed) e = cc
+told_short (Some UnknownCommand) e = cc
+told_short (Some RowOutside) e = cc
+told_short (Some UnfitSource) e = cc
+told_short (Some ValueOutside) e = cc
+told_short (Some ResultInfinite) e = cc
+told_short (Some DirectionMissing) e = cc
+told_short (Some AllReflected) e = cc
+told_short (Some LentTooShort) e = refl
+told_short (Some HistoryEmpty) e = cc
+told_short (Some LineParallel) e = cc
+
 -- ---- calls one after another
 calls_fed : {w : List ℕ} {s : Stream} {input output w' : List ℕ} → Calls w s input output w' → AllFed lent_step (held w (text_of s)) input output w'
 unfolding feed_of
 calls_fed {w} {s} {w' = w'} (feed {input = input} {output = output} c e r) =
     fed_more lent_step (held w (text_of s)) c.bytes c.before (fed_by c.words c.result c.after) e input output w' (calls_fed r)
-calls_fed {s = s} (short c e k r) = rw (ended_short (text_of s) c.before (ended_by c.result c.after) e k) (calls_fed r)
-calls_fed {s = s} (ended c e k) = record { text = ended_last (text_of s) c.before (ended_by c.result c.after) e k; state = refl }
+calls_fed {s = s} (short c e k r) = rw (ended_short (text_of s) c.before (ended_by c.result c.after) e (ap told k)) (calls_fed r)
+calls_fed {s = s} (ended c e k) = record { text = ended_last (text_of s) c.before (ended_by c.result c.after) e (λ q. k (told_short c.result.refusal q)); state = refl }
 
 -- ---- demand 3
 module _ (w input output w' : List ℕ) (f : AllFed lent_step (held w []) input output w') where
