@@ -1,2 +1,3 @@
 -- The laws and proofs of crate capi, file by file.
 pub mod FreshLaws
+pub mod RootDigitLaws

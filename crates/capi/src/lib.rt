@@ -10,13 +10,24 @@ ghost use Rattle.scalar.specs.Fused as Fused;
 ghost use Rattle.scalar.specs.Integral as Integral;
 ghost use Rattle.vector.specs.Masks.{bit};
 ghost use Rattle.commands.specs.Fields.{command_of};
+ghost use Rattle.commands.specs.RefusalNumbers.{refusal_number};
 ghost use Rattle.sheet.specs.Words.{state_words};
 ghost use Rattle.sheet.specs.Run.{stepped_at, lent_step_at, Runs, RunsAll};
 ghost use Rattle.stream.specs.Responses.{Responds};
 ghost use Rattle.capi.specs.Fresh.{freshened, fresh_of};
 
-use commands::codes::LENT_TOO_SHORT;
+use commands::codes::Refusal;
 use sheet::rows::STATE_WORDS;
+
+// The number of a refusal, 0 for none, as C has it.
+fn number_of(done: Result<(), Refusal>) -> u32
+    ensures { result ≡ refusal_number done }
+{
+    match done {
+        Ok(()) => 0,
+        Err(refusal) => u32::from(refusal),
+    }
+}
 
 #[unsafe(no_mangle)]
 pub extern "C" fn bench_sqrt(x: f32) -> f32
@@ -26,6 +37,7 @@ pub extern "C" fn bench_sqrt(x: f32) -> f32
 }
 
 // Whether the root of x is exact: 1 where it is, else 0.
+#[tactic(auto, using(vector::proofs::meanings::MaskLaws::byte_is_bit), unfolding(scalar::specs::ExactRoot::root_and_exactness))]
 #[unsafe(no_mangle)]
 pub extern "C" fn bench_sqrt_is_exact(x: f32) -> u32
     ensures { result ≡ bit (ExactRoot.exact_root x) }
@@ -75,7 +87,7 @@ pub extern "C" fn bench_rem(a: f32, b: f32) -> f32
 pub extern "C" fn bench_run(commands: &[u32], answers: &mut [u32]) -> u32
     ensures { RunsAll commands.now answers.old answers.new result }
 {
-    sheet::run::run_all(commands, answers)
+    number_of(sheet::run::run_all(commands, answers))
 }
 
 // How many words a sheet has.
@@ -87,20 +99,16 @@ pub extern "C" fn bench_words() -> usize
 }
 
 // Makes the first words a fresh sheet, and leaves those behind it. Gives 0, or 9 where there are too few words, and then none is touched.
+#[tactic(auto, using(crate::proofs::FreshLaws::fresh_short, crate::proofs::FreshLaws::fresh_filled))]
 #[unsafe(no_mangle)]
 pub extern "C" fn bench_fresh(state: &mut [u32]) -> u32
     ensures { freshened state.new result ≡ fresh_of state.old }
 {
     if state.len() < STATE_WORDS {
-        LENT_TOO_SHORT
-    } else {
-        let mut i: usize = 0;
-        while i < STATE_WORDS {
-            state[i] = 0;
-            i += 1;
-        }
-        0
+        return u32::from(Refusal::LentTooShort);
     }
+    state[..STATE_WORDS].fill(0);
+    0
 }
 
 // Runs one command on the sheet that lies in the words, and writes its answer's six numbers to the first six of `answer`. Gives the answer's refusal, which is 9 where the
@@ -120,7 +128,7 @@ pub extern "C" fn bench_step(
     ensures { stepped_at state.new answer.new result ≡ lent_step_at state.old (command_of (number ∷ t ∷ a ∷ b ∷ u ∷ v ∷ w ∷ [])) answer.old 0 }
 {
     let seven = [number, t, a, b, u, v, w];
-    sheet::step::step_at(state, &seven, 0, answer, 0)
+    number_of(sheet::step::step_at(state, &seven, 0, answer, 0))
 }
 
 // Runs the command of one line, which comes without its line feed, and writes its answer line over the first 43 bytes of `answer`. Gives the answer's refusal, which is 9
@@ -129,7 +137,7 @@ pub extern "C" fn bench_step(
 pub extern "C" fn bench_respond(state: &mut [u32], line: &[u8], answer: &mut [u8]) -> u32
     ensures { Responds state.old line.now answer.old result state.new answer.new }
 {
-    stream::respond::respond(state, line, answer)
+    number_of(stream::respond::respond(state, line, answer))
 }
 
 // Runs a list of commands on the sheet that lies in the words, as `bench_run` does on a fresh one. Where the words are too few for a sheet, the list is refused by 9.
@@ -137,5 +145,5 @@ pub extern "C" fn bench_respond(state: &mut [u32], line: &[u8], answer: &mut [u8
 pub extern "C" fn bench_run_on(state: &mut [u32], commands: &[u32], answers: &mut [u32]) -> u32
     ensures { Runs state.old commands.now answers.old state.new answers.new result }
 {
-    sheet::run::run(state, commands, answers)
+    number_of(sheet::run::run(state, commands, answers))
 }
