@@ -1,3 +1,3 @@
 -- The laws of crate probe, file by file.
 pub mod NumberSigns
-pub mod AnswerShows
+pub mod ZeroBits

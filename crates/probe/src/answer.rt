@@ -1,92 +1,36 @@
-// Writing an answer line: the refusal and the results in decimal.
-ghost use Rattle.std.specs.Prelude.{◌+◌, ◌≤◌, length};
-ghost use Rattle.probe.specs.Bounds.{longest};
-ghost use Rattle.probe.specs.Shows.{Gives, one};
+// The answer to a call: its results, or the refusal.
+ghost use Rattle.std.specs.Prelude.{◌≡◌, Err};
+ghost use Rattle.probe.specs.Shows.{Gives, number_of, one, zeros_of};
 
-use lines::field::put_number;
+use crate::results::Results;
 
-// The refusals.
-pub(crate) const NONE: u32 = 0;
+pub(crate) type Answer = Result<Results, Refusal>;
 
-pub(crate) const MALFORMED: u32 = 1;
-
-pub(crate) const UNKNOWN: u32 = 2;
-
-pub(crate) const INDEX: u32 = 10;
-
-// The refusal, and the first `count` of the results.
-#[derive(Clone, Copy)]
-pub(crate) struct Answer {
-    pub refusal: u32,
-    pub count: usize,
-    pub results: [u32; 6],
+// Why a call is refused: its line is malformed, no function has its number, or its index is above 2.
+#[derive(Clone, Copy, PartialEq, Eq)]
+pub(crate) enum Refusal {
+    Malformed = 1,
+    Unknown = 2,
+    Index = 10,
 }
 
-// The answer that refuses a call, with a zero for each of `count` results.
-pub(crate) fn refused(refusal: u32, count: usize) -> Answer
-    requires { count ≤ 6 }
-    ensures { Gives refusal count (one 0) result }
-{
-    let results = [0u32; 6];
-    Answer {
-        refusal: refusal,
-        count: count,
-        results: results,
+impl From<Refusal> for u32 {
+    ghost from_gives = { λ e n. n ≡ number_of e };
+
+    fn from(refusal: Refusal) -> u32 {
+        refusal as u32
     }
 }
 
-// The answer to a call that is not refused.
-pub(crate) fn given(count: usize, results: [u32; 6]) -> Answer
-    requires { count ≤ 6 }
-    ensures { Gives 0 count results result }
-{
-    Answer {
-        refusal: NONE,
-        count: count,
-        results: results,
-    }
-}
-
-// Writes the answer's line from `at` on, and gives the place behind it.
-pub(crate) fn put_line(out: &mut [u8], at: usize, answer: Answer) -> usize
-    requires room { at + longest ≤ length out.old }
-    requires few { answer.count ≤ 6 }
-    ensures { result ≤ at + longest }
-{
-    let count = answer.count;
-    let mut end = put_digits(out, at, answer.refusal);
-    let mut i: usize = 0;
-    while i < count {
-        out[end] = b' ';
-        end = put_digits(out, end + 1, answer.results[i]);
-        i += 1;
-    }
-    out[end] = b'\n';
-    end + 1
-}
-
-// Writes the number from `at` on, in as many bytes as it has digits, and gives the place behind it.
-fn put_digits(out: &mut [u8], at: usize, n: u32) -> usize
-    requires { at + 10 ≤ length out.old }
-    ensures { result ≤ at + 10 }
-{
-    let end = at + digits(n);
-    put_number(&mut out[at..end], n);
-    end
-}
-
-// How many digits the number has.
-fn digits(n: u32) -> usize
-    ensures { result ≤ 10 }
-{
-    let mut count: usize = 1;
-    let mut rest = n / 10;
-    while 0 < rest {
-        if count == 10 {
-            return 10;
+impl Refusal {
+    // What the line shows behind the number: a zero in place of the result that an index asks for.
+    pub(crate) fn results(self) -> Results
+        ensures count { result.count ≡ zeros_of self }
+        ensures words { result.words ≡ one 0 }
+    {
+        match self {
+            Refusal::Malformed | Refusal::Unknown => Results::of([]),
+            Refusal::Index => Results::of([0]),
         }
-        count += 1;
-        rest = rest / 10;
     }
-    count
 }

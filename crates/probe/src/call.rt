@@ -1,103 +1,80 @@
 // Reading a call line: decimal numbers with single blanks between them, a byte at a time.
 ghost use Rattle.std.specs.Prelude.{◌≤◌};
 
-// What the bytes of a field come to: no digit yet, a number, or the word that the line is malformed.
-#[derive(Clone, Copy)]
-pub(crate) enum Field {
-    Empty,
-    Number(u32),
-    Malformed,
-}
+use crate::answer::{Answer, Refusal};
+use crate::functions::answer_to;
 
-// A line that has not ended: how many fields have ended, and the field after them. The caller lends an array for the values
-// of the first ten, a function's number and nine arguments; the count stops at eleven.
+// A function's number, nine arguments, and one more, which no function takes. Later fields are
+// not kept: such a line is refused without them.
+const FIELDS: usize = 11;
+
+// A line that has not ended: its first `count` fields, which have ended, and what the bytes behind
+// them come to, where `None` is no digit yet.
+// The memory is fixed, so that the count stands beside its array; `kept` ties them.
 #[derive(Clone, Copy)]
 pub(crate) struct Call {
-    pub count: usize,
-    pub field: Field,
+    fields: [u32; FIELDS],
+    count: usize,
+    last: Result<Option<u32>, Refusal>,
+    ghost kept: { count ≤ 11 },
 }
 
 impl Call {
     // A line with no byte yet.
-    pub(crate) fn fresh() -> Call {
+    pub(crate) fn new() -> Call {
         Call {
+            fields: [0; FIELDS],
             count: 0,
-            field: Field::Empty,
+            last: Ok(None),
         }
     }
 
-    // Whether the line has a byte.
-    pub(crate) fn started(self) -> bool {
-        if 0 < self.count {
-            return true;
-        }
-        let field = self.field;
-        match field {
-            Field::Empty => false,
-            Field::Number(_) => true,
-            Field::Malformed => true,
-        }
+    // Whether the line has no byte.
+    pub(crate) fn is_empty(&self) -> bool {
+        self.count == 0 && self.last == Ok(None)
     }
 
-    // The line with one byte more, which is no line feed.
-    pub(crate) fn with(self, byte: u8, values: &mut [u32; 10]) -> Call {
-        let field = self.field;
-        if byte != b' ' {
-            let longer = extended(field, byte);
-            return Call {
-                count: self.count,
-                field: longer,
-            };
-        }
-        let Field::Number(n) = field else {
-            return Call {
-                count: self.count,
-                field: Field::Malformed,
-            };
+    // Reads one byte more, which is no line feed.
+    pub(crate) fn read(&mut self, byte: u8) {
+        self.last = match self.last {
+            Ok(Some(number)) if byte == b' ' => {
+                self.push(number);
+                Ok(None)
+            }
+            Ok(last) => longer(last, byte),
+            Err(refusal) => Err(refusal),
         };
-        let count = kept(values, self.count, n);
-        Call {
-            count: count,
-            field: Field::Empty,
+    }
+
+    // The answer to the line, which ends here.
+    pub(crate) fn answer(mut self) -> Answer {
+        let number = self.last?.ok_or(Refusal::Malformed)?;
+        self.push(number);
+        answer_to(&self.fields[..self.count])
+    }
+
+    // Keeps a field that has ended.
+    fn push(&mut self, number: u32) {
+        if self.count < FIELDS {
+            self.fields[self.count] = number;
+            self.count += 1;
         }
     }
 }
 
-// Keeps the value of a field that has `count` fields before it, and counts it.
-pub(crate) fn kept(values: &mut [u32; 10], count: usize, n: u32) -> usize {
-    if count < 10 {
-        values[count] = n;
-        return count + 1;
-    }
-    11
-}
-
-// The field with one byte more.
-fn extended(field: Field, byte: u8) -> Field {
-    if byte < b'0' {
-        return Field::Malformed;
-    }
-    if byte > b'9' {
-        return Field::Malformed;
-    }
-    let digit = (byte - b'0') as u32;
+// The field with one byte more. No digit follows a leading zero, and a value fits 32 bits.
+fn longer(field: Option<u32>, byte: u8) -> Result<Option<u32>, Refusal> {
+    let digit = match byte {
+        b'0'..=b'9' => u32::from(byte - b'0'),
+        _ => return Err(Refusal::Malformed),
+    };
     match field {
-        Field::Empty => Field::Number(digit),
-        Field::Number(n) => appended(n, digit),
-        Field::Malformed => Field::Malformed,
+        None => Ok(Some(digit)),
+        Some(0) => Err(Refusal::Malformed),
+        Some(number) => {
+            let tens = number.checked_mul(10).ok_or(Refusal::Malformed)?;
+            let number = tens.checked_add(digit).ok_or(Refusal::Malformed)?;
+            Ok(Some(number))
+        }
     }
-}
-
-// The number with one digit more: no digit follows a leading zero, and a value fits 32 bits.
-fn appended(n: u32, digit: u32) -> Field
-    requires { digit ≤ 9 }
-{
-    if n == 0 {
-        return Field::Malformed;
-    }
-    let longer = (n as u64) * 10 + (digit as u64);
-    if longer > 4294967295 {
-        return Field::Malformed;
-    }
-    Field::Number(longer as u32)
 }

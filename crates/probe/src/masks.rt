@@ -1,35 +1,29 @@
-// The functions that give a mask, and `test`, which refuses an index above 2.
+// The functions of masks, each by the number that a call line gives it:
+// the `match` is the table of docs/FUNCTIONS.md.
 ghost use Rattle.vector.specs.Masks as Masks;
 ghost use Rattle.probe.specs.Shows.{Shows};
 
-use crate::answer::{Answer, INDEX, refused};
-use crate::forms::flag;
-use vector::bvec3::{BVec3, Tested};
-use vector::vec3::Vec3;
+use crate::answer::{Answer, Refusal};
+use crate::arguments::{of_one, of_three, of_two};
+use crate::shown::Shown;
+use vector::bvec3::BVec3;
 
-pub(crate) fn result(number: u32, a: Vec3, b: Vec3, m: BVec3, n: BVec3) -> BVec3 {
+pub(crate) fn answer(number: u32, words: &[u32]) -> Answer {
     match number {
-        30 => BVec3::new(m.x, m.y, m.z),
-        31 => BVec3::splat(m.x),
-        34 => m.and(n),
-        35 => m.or(n),
-        36 => m.not(),
-        52 => a.cmpeq(b),
-        53 => a.cmpge(b),
-        54 => a.cmple(b),
-        55 => a.cmplt(b),
-        61 => a.is_finite_mask(),
-        _ => a.is_nan_mask(), // 63
+        30 => of_three(words, BVec3::new),
+        31 => of_one(words, BVec3::splat),
+        32 => of_two(words, test),
+        33 => of_one(words, BVec3::bitmask),
+        34 => of_two(words, |a: BVec3, b: BVec3| a & b),
+        35 => of_two(words, |a: BVec3, b: BVec3| a | b),
+        36 => of_one(words, |a: BVec3| !a),
+        _ => Err(Refusal::Unknown),
     }
 }
 
 // A bit, or the refusal.
-pub(crate) fn test(m: BVec3, index: u32) -> Answer
+fn test(m: BVec3, index: u32) -> Answer
     ensures { Shows Masks.bit (Masks.test m index) result }
 {
-    let t = m.test(index);
-    let Tested::Bit(b) = t else {
-        return refused(INDEX, 1);
-    };
-    flag(b)
+    m.test(index).ok_or(Refusal::Index)?.answer()
 }

@@ -1,74 +1,110 @@
-// The functions that give a vector.
-use vector::bvec3::BVec3;
+// The functions of vectors, each by the number that a call line gives it:
+// the `match` is the table of docs/FUNCTIONS.md.
+ghost use Rattle.std.specs.Float.{binary32};
+ghost use Rattle.std.specs.Float.Ieee.{to_bits};
+ghost use Rattle.vector.specs.Indexed as Indexed;
+ghost use Rattle.probe.specs.Shows.{Shows};
+
+use crate::answer::{Answer, Refusal};
+use crate::arguments::{constant, of_one, of_three, of_two};
+use crate::shown::Shown;
+use crate::signs::{copysign_all, is_negative_bitmask};
 use vector::vec3::Vec3;
 
-// The result of a function of one vector.
-pub(crate) fn of_one(number: u32, a: Vec3) -> Vec3 {
+pub(crate) fn answer(number: u32, words: &[u32]) -> Answer {
     match number {
-        40 => Vec3::new(a.x, a.y, a.z),
-        56 => a.abs(),
-        57 => a.signum(),
-        71 => a.normalize(),
-        74 => a.normalize_or_zero(),
-        81 => a.round(),
-        82 => a.floor(),
-        83 => a.trunc(),
-        85 => a.saturate(),
-        86 => a.fract(),
-        87 => a.fract_gl(),
-        88 => a.recip(),
-        100 => a.any_orthogonal_vector(),
-        101 => a.any_orthonormal_vector(),
-        112 => a.neg(),
-        122 => a.scaled(),
-        _ => a.direction_unchecked(), // 123
+        40 => of_three(words, Vec3::new),
+        41 => of_one(words, Vec3::splat),
+        42 => of_three(words, Vec3::select),
+        43 => of_two(words, Vec3::dot),
+        44 => of_two(words, Vec3::cross),
+        45 => of_two(words, Vec3::min),
+        46 => of_two(words, Vec3::max),
+        47 => of_three(words, Vec3::clamp),
+        48 => of_one(words, Vec3::min_element),
+        49 => of_one(words, Vec3::max_element),
+        50 => of_one(words, Vec3::min_position),
+        51 => of_one(words, Vec3::max_position),
+        52 => of_two(words, Vec3::cmpeq),
+        53 => of_two(words, Vec3::cmpge),
+        54 => of_two(words, Vec3::cmple),
+        55 => of_two(words, Vec3::cmplt),
+        56 => of_one(words, Vec3::abs),
+        57 => of_one(words, Vec3::signum),
+        58 => of_two(words, copysign_all),
+        59 => of_one(words, is_negative_bitmask),
+        60 => of_one(words, Vec3::is_finite),
+        61 => of_one(words, Vec3::is_finite_mask),
+        62 => of_one(words, Vec3::is_nan),
+        63 => of_one(words, Vec3::is_nan_mask),
+        64 => of_one(words, Vec3::length),
+        65 => of_one(words, Vec3::length_squared),
+        66 => of_one(words, Vec3::length_recip),
+        67 => of_two(words, Vec3::distance),
+        68 => of_two(words, Vec3::distance_squared),
+        69 => of_two(words, Vec3::div_euclid),
+        70 => of_two(words, Vec3::rem_euclid),
+        71 => of_one(words, Vec3::normalize),
+        72 => of_one(words, Vec3::try_normalize),
+        73 => of_two(words, Vec3::normalize_or),
+        74 => of_one(words, Vec3::normalize_or_zero),
+        75 => of_one(words, Vec3::normalize_and_length),
+        76 => of_one(words, Vec3::is_normalized),
+        77 => of_two(words, Vec3::project_onto),
+        78 => of_two(words, Vec3::reject_from),
+        79 => of_two(words, Vec3::project_onto_normalized),
+        80 => of_two(words, Vec3::reject_from_normalized),
+        81 => of_one(words, Vec3::round),
+        82 => of_one(words, Vec3::floor),
+        83 => of_one(words, Vec3::trunc),
+        84 => of_two(words, Vec3::step),
+        85 => of_one(words, Vec3::saturate),
+        86 => of_one(words, Vec3::fract),
+        87 => of_one(words, Vec3::fract_gl),
+        88 => of_one(words, Vec3::recip),
+        89 => of_three(words, Vec3::lerp),
+        90 => of_three(words, Vec3::move_towards),
+        91 => of_two(words, Vec3::midpoint),
+        92 => of_three(words, Vec3::abs_diff_eq),
+        93 => of_three(words, Vec3::clamp_length),
+        94 => of_two(words, Vec3::clamp_length_max),
+        95 => of_two(words, Vec3::clamp_length_min),
+        96 => of_three(words, Vec3::mul_add),
+        97 => of_two(words, Vec3::reflect),
+        98 => of_three(words, Vec3::refract),
+        99 => of_two(words, Vec3::angle_between),
+        100 => of_one(words, Vec3::any_orthogonal_vector),
+        101 => of_one(words, Vec3::any_orthonormal_vector),
+        102 => of_one(words, Vec3::any_orthonormal_pair),
+        103 => of_two(words, component),
+        104 => of_two(words, |a: Vec3, b: Vec3| a + b),
+        105 => of_two(words, |a: Vec3, b: Vec3| a - b),
+        106 => of_two(words, |a: Vec3, b: Vec3| a * b),
+        107 => of_two(words, |a: Vec3, b: Vec3| a / b),
+        108 => of_two(words, |a: Vec3, s: f32| a + s),
+        109 => of_two(words, |a: Vec3, s: f32| a - s),
+        110 => of_two(words, |a: Vec3, s: f32| a * s),
+        111 => of_two(words, |a: Vec3, s: f32| a / s),
+        112 => of_one(words, |a: Vec3| -a),
+        113 => of_two(words, |s: f32, a: Vec3| s * a),
+        114 => of_one(words, Vec3::from_homogeneous),
+        115 => of_one(words, Vec3::to_homogeneous),
+        116 => of_two(words, Vec3::extend),
+        117 => constant(words, Vec3::ZERO),
+        118 => constant(words, Vec3::ONE),
+        119 => constant(words, Vec3::X),
+        120 => of_one(words, Vec3::length_and_exactness),
+        121 => of_two(words, Vec3::distance_and_exactness),
+        122 => of_one(words, Vec3::scaled),
+        123 => of_one(words, Vec3::direction_unchecked),
+        _ => Err(Refusal::Unknown),
     }
 }
 
-// The result of a function of two vectors.
-pub(crate) fn of_two(number: u32, a: Vec3, b: Vec3) -> Vec3 {
-    match number {
-        44 => a.cross(b),
-        45 => a.min(b),
-        46 => a.max(b),
-        69 => a.div_euclid(b),
-        70 => a.rem_euclid(b),
-        73 => a.normalize_or(b),
-        77 => a.project_onto(b),
-        78 => a.reject_from(b),
-        79 => a.project_onto_normalized(b),
-        80 => a.reject_from_normalized(b),
-        84 => a.step(b),
-        91 => a.midpoint(b),
-        97 => a.reflect(b),
-        104 => a.add(b),
-        105 => a.sub(b),
-        106 => a.mul(b),
-        _ => a.div(b), // 107
-    }
-}
-
-// The result of a function of any other arguments, and of a constant. A number is the first component of its vector.
-pub(crate) fn of_more(number: u32, a: Vec3, b: Vec3, c: Vec3, m: BVec3) -> Vec3 {
-    match number {
-        41 => Vec3::splat(a.x),
-        42 => Vec3::select(m, b, c),
-        47 => a.clamp(b, c),
-        89 => a.lerp(b, c.x),
-        90 => a.move_towards(b, c.x),
-        93 => a.clamp_length(b.x, b.y),
-        94 => a.clamp_length_max(b.x),
-        95 => a.clamp_length_min(b.x),
-        96 => a.mul_add(b, c),
-        98 => a.refract(b, c.x),
-        108 => a.add_f32(b.x),
-        109 => a.sub_f32(b.x),
-        110 => a.mul_f32(b.x),
-        111 => a.div_f32(b.x),
-        113 => Vec3::f32_mul(a.x, Vec3::new(a.y, a.z, b.x)),
-        114 => Vec3::from_homogeneous(a.extend(b.x)),
-        118 => Vec3::ONE,
-        119 => Vec3::X,
-        _ => Vec3::ZERO, // 117
-    }
+// A number, or the refusal.
+#[tactic(auto, using(crate::proofs::ZeroBits::bits_of_zero))]
+fn component(a: Vec3, index: u32) -> Answer
+    ensures { Shows (to_bits binary32) (Indexed.component a index) result }
+{
+    a.component(index).ok_or(Refusal::Index)?.answer()
 }
