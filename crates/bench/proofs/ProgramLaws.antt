@@ -8,5 +8,5 @@ use Rattle.stream.proofs.calls.CallLaws.{fresh_fed_answered}
 use Rattle.bench.specs.Program.{answers_to, ProgramAnswers}
 
 pub program_answers : ProgramAnswers
-program_answers behind w' out r f ended =
-    fresh_fed_answered behind f.input (answers_to (fresh_words behind) f.input) w' (record { text = refl; state = ap (λ (h : Held (List ℕ)). h.state) f.fed })
+program_answers behind s r f ended =
+    fresh_fed_answered behind f.input (answers_to (fresh_words behind) f.input) s.state (record { text = refl; state = ap (λ (h : Held (List ℕ)). h.state) f.fed })

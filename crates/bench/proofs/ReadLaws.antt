@@ -1,143 +1,137 @@
 -- What a read answers, and the bytes of all reads, one after another. Assumes nothing.
 use Prim.Native.Nat.{ℕ, zero, suc, ◌+◌, ◌*◌, ◌≤◌, ◌<◌}
-use mathlib.Core.Bool.{Bool, true, false, cond}
+use mathlib.Core.Bool.{Bool, true, false}
 use mathlib.Core.Path.{◌≡◌, refl, sym, ap, ◌∙◌}
 use mathlib.Core.List.{List, [], ◌++◌}
 use native.Mathlib.Omega.{arith}
-use borrow.Author.Tests.{leb-true, leb-false, ltb-true}
-use lib.IntN.{ℤ, pos, negsuc}
-use lib.Signed.{le_z, lt_z}
 use lib.ListN.{length, take, length-append}
 use lib.Seq.{length-take-le, take-take}
+use Rattle.std.proofs.lemmas.Result.{IfOk-from_err}
+use Rattle.std.specs.Prelude.{Option, Result, Ok, Err, IsErr}
+use Rattle.commands.specs.declared.codes.Refusal.{Refusal}
 use Rattle.bench.specs.Counts.{Moved, clamp_len}
 use Rattle.sheet.specs.Words.{lent_step}
-use Rattle.stream.specs.declared.Stream.{Stream}
-use Rattle.stream.specs.Stream.{Held, held, text_of, feed_of, ended_of}
+use Rattle.stream.specs.Stream.{Held, text_of, feed_of, EndedInto, ended_of}
 use Rattle.stream.proofs.inputs.PieceLaws.{feed_append_held}
-use Rattle.bench.specs.declared.answer.Answered.{Answered}
-use Rattle.bench.specs.declared.input.Status.{Status}
-use Rattle.bench.specs.declared.input.Status.TheVariants.{Going, Ended, ReadFailed, WriteFailed}
-use Rattle.bench.specs.declared.input.Turn.{Turn}
-use Rattle.bench.specs.declared.input.Answers.{Answers}
-use Rattle.bench.specs.Feeding.{most, AllFed, status_of, GotFed, ReadFed, InputFed}
+use Rattle.bench.specs.declared.answer.Session.{Session}
+use Rattle.bench.specs.declared.standard.Failure.{Failure}
+use Rattle.bench.specs.declared.standard.Failure.TheVariants.{Writing}
+use Rattle.bench.specs.Feeding.{most, held_by, AllFed, status_of, consumed_by, LastHanded, GotFed, ReadFed, InputFed}
 
--- ---- what its answer says
-none_read : (z : ℤ) (m : ℕ) → le_z z (pos 0) ≡ true → clamp_len z m ≡ 0
-none_read (pos k) m t = omega (arith, leb-true k 0 t)
-none_read (negsuc k) m t = refl
+-- ---- what is done with the answer of a read
+-- nothing, where it failed
+pub got_failed : (got : Result ℕ Failure) (e : Failure) (chunk : List ℕ) (s : Session) (r : Result ℕ Failure) → got ≡ Err e → r ≡ Err e → GotFed (held_by s) got chunk s r
+unfolding status_of feed_of
+got_failed got e chunk s r g q = rw g (record { written = true; status = q; all = λ n. refl; fed = refl })
 
-status_failed : (z : ℤ) (b : Bool) → lt_z z (pos 0) ≡ true → ReadFailed ≡ status_of z b
-unfolding status_of
-status_failed (pos k) b t = absurd (omega (arith, ltb-true k 0 t))
-status_failed (negsuc k) b t = refl
+module _ (h : Held (List ℕ)) (got : Result ℕ Failure) (n : ℕ) (chunk : List ℕ) (s : Session) (r : Result ℕ Failure) (g : got ≡ Ok n) (m : Moved (length chunk) got) where
+  brought : length (take n chunk) ≡ n
+  brought = length-take-le n chunk (rw g at m)
 
-status_ended : (z : ℤ) (b : Bool) → lt_z z (pos 0) ≡ false → le_z z (pos 0) ≡ true → Ended ≡ status_of z b
-unfolding status_of
-status_ended (pos zero) b l t = refl
-status_ended (pos (suc k)) b l t = absurd (omega (arith, leb-true (suc k) 0 t))
-status_ended (negsuc k) b l t = cc
-
-status_read : (z : ℤ) (b : Bool) → le_z z (pos 0) ≡ false → cond b Going WriteFailed ≡ status_of z b
-unfolding status_of
-status_read (pos zero) b t = absurd (omega (arith, leb-false 0 0 t))
-status_read (pos (suc k)) b t = refl
-status_read (negsuc k) b t = cc
-
--- statuses by number, so that two are told apart
-abbrev pub status_number : Status → ℕ
-status_number Going = 0
-status_number Ended = 1
-status_number ReadFailed = 2
-status_number WriteFailed = 3
-
-pub apart : {s t : Status} → s ≡ t → (status_number s ≡ status_number t → ⊥) → ⊥
-apart e n = n (ap status_number e)
-
-some_read : (z : ℤ) (b : Bool) (m : ℕ) → status_of z b ≡ Going → Moved m z → (0 < clamp_len z m) × (clamp_len z m ≤ m)
-unfolding status_of
-some_read (pos zero) b m e l = absurd (apart e (λ q. omega (arith, q)))
-some_read (pos (suc k)) b m e l = (omega (arith, l), omega arith)
-some_read (negsuc k) b m e l = absurd (apart e (λ q. omega (arith, q)))
-
-ended_none : (z : ℤ) (b : Bool) (m : ℕ) → status_of z b ≡ Ended → clamp_len z m ≡ 0
-unfolding status_of
-ended_none (pos zero) b m e = omega arith
-ended_none (pos (suc k)) true m e = absurd (apart e (λ q. omega (arith, q)))
-ended_none (pos (suc k)) false m e = absurd (apart e (λ q. omega (arith, q)))
-ended_none (negsuc k) b m e = refl
-
--- ---- what is done with it
-module _ (w text chunk : List ℕ) (z : ℤ) (s : Stream) (e : text ≡ text_of s) where
-  nothing_fed : held w (text_of s) ≡ (feed_of lent_step (held w text) (take 0 chunk)).held
-  unfolding feed_of
-  nothing_fed = rw e
-
-  pub got_failed : lt_z z (pos 0) ≡ true → GotFed (held w text) z chunk w (record { stream = s; consumed = 0; status = ReadFailed })
-  got_failed t = record { written = true; status = status_failed z true t; all = λ n. sym (negative z t); fed = nothing_fed }
+  -- the first n bytes of the chunk are answered, all of them
+  pub got_all : r ≡ Ok n → AllFed h (take n chunk) s (Ok tt) → GotFed h got chunk s r
+  unfolding status_of
+  got_all q f =
+      let le : n ≤ length chunk = rw g at m in
+      rw g
+      (record {
+        written = true;
+        status = q ∙ status n;
+        all = λ _. omega (arith, f.all, brought, le);
+        fed = f.fed ∙ ap (λ (l : List ℕ). (feed_of lent_step h l).held) (take-take s.consumed n chunk (omega (arith, f.part, brought)));
+      })
     where
-      negative : (z : ℤ) → lt_z z (pos 0) ≡ true → clamp_len z (length chunk) ≡ 0
-      negative (pos k) t = absurd (omega (arith, ltb-true k 0 t))
-      negative (negsuc k) t = refl
+      status : (n : ℕ) → Ok n ≡ status_of (Ok n) true
+      status zero = refl
+      status (suc k) = refl
 
-  pub got_ended : lt_z z (pos 0) ≡ false → le_z z (pos 0) ≡ true → GotFed (held w text) z chunk w (record { stream = s; consumed = 0; status = Ended })
-  got_ended l t = record { written = true; status = status_ended z true l t; all = λ n. sym (none_read z (length chunk) t); fed = nothing_fed }
+  -- or up to a write that failed
+  pub got_some : (e : Failure) → r ≡ Err e → AllFed h (take n chunk) s (Err e) → GotFed h got chunk s r
+  unfolding status_of
+  got_some e q f =
+      let writing : r ≡ Err Writing = q ∙ ap Err f.failed.0 in
+      rw g
+      (record {
+        written = false;
+        status = writing ∙ status n (omega (arith, f.failed.1, brought));
+        all = λ o. absurd (o writing);
+        fed = f.fed ∙ ap (λ (l : List ℕ). (feed_of lent_step h l).held) (take-take s.consumed n chunk (omega (arith, f.part, brought)));
+      })
+    where
+      status : (n : ℕ) → 0 < n → Err Writing ≡ status_of (Ok n) false
+      status zero lt = absurd (omega (arith, lt))
+      status (suc k) lt = refl
 
--- the first n bytes of the chunk are answered
-pub got_answered : (h : Held (List ℕ)) (chunk w : List ℕ) (z : ℤ) (n : ℕ) (a : Answered) (b : Bool) → n ≤ length chunk → n ≡ clamp_len z (length chunk) → le_z z (pos 0) ≡ false
-    → AllFed h (take n chunk) w a
-    → a.written ≡ b
-    → GotFed h z chunk w (record { stream = a.stream; consumed = a.consumed; status = cond b Going WriteFailed })
-got_answered h chunk w z n a b le e t f g =
-    let size : length (take n chunk) ≡ n = length-take-le n chunk le in
-    let part : a.consumed ≤ n = omega (arith, f.part, size) in
-    record { written = b; status = status_read z b t; all = whole b g; fed = f.fed ∙ ap (λ (l : List ℕ). (feed_of lent_step h l).held) (take-take a.consumed n chunk part) }
-  where
-    whole : (b : Bool) → a.written ≡ b → (cond b Going WriteFailed ≡ WriteFailed → ⊥) → a.consumed ≡ clamp_len z (length chunk)
-    whole true g n' = omega (arith, f.all g, length-take-le n chunk le, e)
-    whole false g n' = absurd (n' refl)
+-- how many bytes it told, where it did not fail
+got_told : (got : Result ℕ Failure) (written : Bool) (n m : ℕ) → Ok n ≡ status_of got written → Moved m got → (clamp_len got m ≡ n) × (n ≤ m)
+unfolding status_of
+got_told (Err e) written n m q v = absurd (cc)
+got_told (Ok zero) written n m q v = let z : n ≡ 0 = cc in (omega (arith, z), omega (arith, z))
+got_told (Ok (suc k)) true n m q v = let z : n ≡ suc k = cc in (omega (arith, z, v), omega (arith, z, v))
+got_told (Ok (suc k)) false n m q v = absurd (cc)
 
 -- ---- the bytes of all reads: at least one, and no more than the chunk has room for, each time
-pub record Fed (w w' text : List ℕ) (reads : ℕ) : Type 0 where
+pub record Fed (h : Held (List ℕ)) (s : Session) (reads : ℕ) : Type 0 where
   pub input : List ℕ
-  pub is_fed : held w' text ≡ (feed_of lent_step (held w []) input).held
+  pub is_fed : held_by s ≡ (feed_of lent_step h input).held
   pub least : reads ≤ length input
   pub most_bytes : length input ≤ reads * most
 
-pub nothing_read : (w text : List ℕ) → text ≡ [] → Fed w w text 0
+pub nothing_read : (s : Session) → Fed (held_by s) s 0
 unfolding feed_of
-nothing_read w text e = record { input = []; is_fed = rw e; least = omega arith; most_bytes = omega arith }
+nothing_read s = record { input = []; is_fed = refl; least = omega arith; most_bytes = omega arith }
 
-module _ {w w₁ text w₂ chunk : List ℕ} {reads : ℕ} {t : Turn} (f : Fed w w₁ text reads) (r : ReadFed (held w₁ text) chunk w₂ t) where
+module _ {h : Held (List ℕ)} {s t : Session} {chunk : List ℕ} {reads : ℕ} {r : Result ℕ Failure} (f : Fed h s reads) (d : ReadFed (held_by s) chunk t r) where
   -- the bytes of one read more, those that were consumed
   abbrev pub joined : List ℕ
-  joined = f.input ++ take t.consumed chunk
+  joined = f.input ++ take (consumed_by d.got t) chunk
 
-  pub joined_fed : held w₂ (text_of t.stream) ≡ (feed_of lent_step (held w []) joined).held
-  joined_fed = r.answered.fed ∙ ap (λ (h : Held (List ℕ)). (feed_of lent_step h (take t.consumed chunk)).held) f.is_fed ∙ sym (feed_append_held lent_step (held w []) f.input (take t.consumed chunk))
+  joined_fed : held_by t ≡ (feed_of lent_step h joined).held
+  joined_fed =
+      d.answered.fed ∙ ap (λ (x : Held (List ℕ)). (feed_of lent_step x (take (consumed_by d.got t) chunk)).held) f.is_fed
+      ∙ sym (feed_append_held lent_step h f.input (take (consumed_by d.got t) chunk))
 
-  pub read_more : t.status ≡ Going → length chunk ≤ most → Fed w w₂ (text_of t.stream) (reads + 1)
-  read_more e room =
-      let g = r.answered in
-      let some = some_read r.got g.written (length chunk) (sym g.status ∙ e) r.moved in
-      let all : t.consumed ≡ clamp_len r.got (length chunk) = g.all (λ q. apart (sym e ∙ q) (λ k. omega (arith, k))) in
-      let size : length (take t.consumed chunk) ≡ t.consumed = length-take-le t.consumed chunk (omega (arith, all, some.1)) in
-      let both : length joined ≡ length f.input + length (take t.consumed chunk) = length-append f.input (take t.consumed chunk) in
-      record { input = joined; is_fed = joined_fed; least = omega (arith, f.least, all, some.0, size, both); most_bytes = omega (arith, f.most_bytes, all, some.1, size, both, room) }
+  -- so many, where it did not fail
+  joined_length : (n : ℕ) → r ≡ Ok n → (length joined ≡ length f.input + n) × (n ≤ length chunk)
+  joined_length n e =
+      let g = d.answered in
+      let told = got_told d.got g.written n (length chunk) (sym e ∙ g.status) d.moved in
+      let all : consumed_by d.got t ≡ clamp_len d.got (length chunk) = g.all (λ q. cc) in
+      let size : length (take (consumed_by d.got t) chunk) ≡ consumed_by d.got t = length-take-le (consumed_by d.got t) chunk (omega (arith, all, told.0, told.1)) in
+      (omega (arith, length-append f.input (take (consumed_by d.got t) chunk), size, all, told.0), told.1)
+
+  pub read_more : (n : ℕ) → r ≡ Ok n → (n ≡ 0 → ⊥) → length chunk ≤ most → Fed h t (reads + 1)
+  read_more n e some room =
+      let l = joined_length n e in
+      record { input = joined; is_fed = joined_fed; least = omega (arith, f.least, l.0, some); most_bytes = omega (arith, f.most_bytes, l.0, l.1, room) }
 
   -- and where the input has ended, none
-  pub read_ended : t.status ≡ Ended → Fed w w₂ (text_of t.stream) reads
+  read_ended : r ≡ Ok 0 → Fed h t reads
   read_ended e =
-      let g = r.answered in
-      let none : t.consumed ≡ 0 = g.all (λ q. apart (sym e ∙ q) (λ k. omega (arith, k))) ∙ ended_none r.got g.written (length chunk) (sym g.status ∙ e) in
-      let both : length joined ≡ length f.input + length (take t.consumed chunk) = length-append f.input (take t.consumed chunk) in
-      let size : length (take t.consumed chunk) ≡ 0 = rw none refl in
-      record { input = joined; is_fed = joined_fed; least = omega (arith, f.least, both); most_bytes = omega (arith, f.most_bytes, size, both) }
+      let l = joined_length 0 e in
+      record { input = joined; is_fed = joined_fed; least = omega (arith, f.least, l.0); most_bytes = omega (arith, f.most_bytes, l.0) }
 
--- ---- the end: of the input, or before it
-pub input_ended : (w w' text before out : List ℕ) (reads : ℕ) → Fed w w' text reads → out ≡ (ended_of text before).bytes → InputFed w w' out (record { reads = reads; status = Ended })
-input_ended w w' text before out reads f e =
-    record { input = f.input; text = text; fed = f.is_fed; least_read = λ q. f.least; most_read = λ q. f.most_bytes; before_end = before; last = λ q. e }
+  -- the input is left there, on a failure of the read or of what comes after it
+  pub input_left : (u : Session) (q : Result ℕ Failure) → held_by u ≡ held_by t → IsErr q → InputFed h u q
+  input_left u q kept e =
+      record {
+        input = joined;
+        fed = kept ∙ joined_fed;
+        least_read = IfOk-from_err q (λ reads. reads ≤ length joined) e;
+        most_read = IfOk-from_err q (λ reads. length joined ≤ reads * most) e;
+        before_end = [];
+        last = IfOk-from_err q (λ _. _) e;
+      }
 
-pub input_left : (w w' text input out : List ℕ) (r : Answers) → held w' text ≡ (feed_of lent_step (held w []) input).held → (r.status ≡ Ended → ⊥) → InputFed w w' out r
-input_left w w' text input out r e n =
-    record { input = input; text = text; fed = e; least_read = λ q. absurd (n q); most_read = λ q. absurd (n q); before_end = []; last = λ q. absurd (n q) }
+  -- its end: the answer of the bytes that are left lies in the lent ones
+  pub input_ended : (u : Session) (before : List ℕ) (q : Result (Option Refusal) Failure) → r ≡ Ok 0 → held_by u ≡ held_by t → LastHanded (text_of t.stream) before u q → InputFed h u (Ok reads)
+  input_ended u before q e kept l =
+      let f = read_ended e in
+      record {
+        input = f.input;
+        fed = kept ∙ f.is_fed;
+        least_read = f.least;
+        most_read = f.most_bytes;
+        before_end = before;
+        last = ap (λ (x : EndedInto). x.bytes) l.last ∙ ap (λ (x : Held (List ℕ)). (ended_of x.text before).bytes) (sym kept);
+      }

@@ -5,26 +5,13 @@ mod answer;
 mod input;
 mod standard;
 
-use input::{Status, answer_input};
-use sheet::rows::STATE_WORDS;
-use standard::report;
-
-// How many bytes are read at once, and lent for answers.
-const ROOM: usize = 65536;
+use answer::Session;
+use std::io::Print;
 
 fn main(rt: HostRuntime) {
-    let mut state = [0u32; STATE_WORDS];
-    let mut chunk = [0u8; ROOM];
-    let mut out = [0u8; ROOM];
-    let r = answer_input(rt.stdin(), rt.stdout(), &mut state, &mut chunk, &mut out);
-    let status = r.status;
-    match status {
-        Status::Ended => {}
-        Status::Going => report(
-            rt.stderr(),
-            b"bench: the input has more parts than can be counted\n",
-        ),
-        Status::ReadFailed => report(rt.stderr(), b"bench: reading standard input failed\n"),
-        Status::WriteFailed => report(rt.stderr(), b"bench: writing standard output failed\n"),
+    let mut session = Session::fresh(rt.stdin(), rt.stdout());
+    if let Err(failure) = session.answer_input() {
+        // Nothing is left to say where that fails too.
+        let _ = rt.stderr().write_all(failure.message().as_bytes());
     }
 }

@@ -1,41 +1,41 @@
-// The standard streams: what a read answers, as a number, and whether a write took all bytes.
-ghost use Rattle.std.specs.Prelude.{◌≡◌, ◌≤◌, length};
-ghost use Rattle.bench.specs.Counts.{Moved, clamp_len};
-ghost use Rattle.bench.specs.Feeding.{most};
+// The standard streams: reading and writing them, and why that failed.
+ghost use Rattle.std.specs.Prelude.{length, IsOkUnless};
+ghost use Rattle.bench.specs.Counts.{Moved};
 
-use std::io::{Print, Read, Stderr, Stdin, Stdout};
+use std::io::{Print, Read, Stdin, Stdout};
+
+// Why the input was not answered to its end.
+#[derive(Clone, Copy, PartialEq, Eq)]
+pub(crate) enum Failure {
+    Reading,
+    Writing,
+    TooManyReads,
+}
+
+impl Failure {
+    // What the program says of it on standard error.
+    // Tried as `Display`: `eprintln!` adds memcpy of the C library and 2,812 bytes to the program.
+    pub(crate) fn message(self) -> &'static str {
+        match self {
+            Failure::Reading => "bench: reading standard input failed\n",
+            Failure::Writing => "bench: writing standard output failed\n",
+            Failure::TooManyReads => "bench: the input has more parts than can be counted\n",
+        }
+    }
+}
 
 // Reads up to as many bytes as the chunk has. Gives how many lie at its start, 0 at the end of the
-// input, or -1 where the read failed.
-pub(crate) fn read(stdin: Stdin, chunk: &mut [u8]) -> isize
-    requires { length chunk.old ≤ most }
+// input.
+pub(crate) fn read(mut stdin: Stdin, chunk: &mut [u8]) -> Result<usize, Failure>
     ensures { Moved (length chunk.new) result }
 {
-    let mut input = stdin;
-    match input.read(chunk) {
-        Ok(n) => n as isize,
-        Err(_) => -1,
-    }
+    stdin.read(chunk).map_err(|_| Failure::Reading)
 }
 
-// How many bytes at the start of the chunk a read filled: none where it answered 0 or -1.
-pub(crate) fn count(got: isize, chunk: &[u8]) -> usize
-    ensures in_bounds { result ≤ length chunk.now }
-    ensures value { result ≡ clamp_len got (length chunk.now) }
+// Writes the bytes to standard output, all of them unless it fails. `Writing` is its one failure, as
+// that of `hand_over` and `answer_some`: a type for it alone would want a `From` and say no more.
+pub(crate) fn write_all(stdout: Stdout, bytes: &[u8]) -> Result<(), Failure>
+    ensures { IsOkUnless result Failure.Writing }
 {
-    if got <= 0 {
-        return 0;
-    }
-    let n = got as usize;
-    if n < chunk.len() { n } else { chunk.len() }
-}
-
-// Writes the bytes to standard output, and says whether it took all of them.
-pub(crate) fn write_all(stdout: Stdout, bytes: &[u8]) -> bool {
-    stdout.write_all(bytes).is_ok()
-}
-
-// Says on standard error what failed. Nothing is left to say where that fails too.
-pub(crate) fn report(stderr: Stderr, line: &[u8]) {
-    let _written = stderr.write_all(line).is_ok();
+    stdout.write_all(bytes).map_err(|_| Failure::Writing)
 }
