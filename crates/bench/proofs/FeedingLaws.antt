@@ -50,7 +50,7 @@ unfolding feed_of
 fed_none s bytes c g = record { part = omega (arith, c); fed = rw c; given = rw (c, g) }
 
 -- the bytes from the first that is left on, as they are lent
-length_rest : (l : List ℕ) (at : ℕ) → length (take (length l - at) (drop at l)) ≡ length l - at
+pub length_rest : (l : List ℕ) (at : ℕ) → length (take (length l - at) (drop at l)) ≡ length l - at
 length_rest l at = length-take (length l - at) (drop at l) ∙ omega (arith, length-drop at l)
 
 rest_is : (l : List ℕ) (at : ℕ) → take (length l - at) (drop at l) ≡ drop at l

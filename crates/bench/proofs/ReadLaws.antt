@@ -86,7 +86,7 @@ module _ {h : Held (List ℕ)} {s t : Session} {chunk : List ℕ} {reads : ℕ} 
   abbrev pub joined : List ℕ
   joined = f.input ++ take (consumed_by d.got t) chunk
 
-  joined_fed : held_by t ≡ (feed_of lent_step h joined).held
+  pub joined_fed : held_by t ≡ (feed_of lent_step h joined).held
   joined_fed =
       d.answered.fed ∙ ap (λ (x : Held (List ℕ)). (feed_of lent_step x (take (consumed_by d.got t) chunk)).held) f.is_fed
       ∙ sym (feed_append_held lent_step h f.input (take (consumed_by d.got t) chunk))
@@ -106,7 +106,7 @@ module _ {h : Held (List ℕ)} {s t : Session} {chunk : List ℕ} {reads : ℕ} 
       record { input = joined; is_fed = joined_fed; least = omega (arith, f.least, l.0, some); most_bytes = omega (arith, f.most_bytes, l.0, l.1, room) }
 
   -- and where the input has ended, none
-  read_ended : r ≡ Ok 0 → Fed h t reads
+  pub read_ended : r ≡ Ok 0 → Fed h t reads
   read_ended e =
       let l = joined_length 0 e in
       record { input = joined; is_fed = joined_fed; least = omega (arith, f.least, l.0); most_bytes = omega (arith, f.most_bytes, l.0) }

@@ -1,14 +1,14 @@
 -- Signs and kinds of floats, by their parts and by their bits. Assumes nothing.
-use mathlib.Core.Path.{◌≡◌, refl, sym, ap, subst}
-use mathlib.Core.Bool.{Bool, true, false, not, cond, true≢false}
+use mathlib.Core.Path.{◌≡◌, refl, sym, ap, ◌∙◌, subst}
+use mathlib.Core.Bool.{Bool, true, false, not, ◌&&◌, ◌||◌, beq, cond, true≢false}
 use mathlib.Core.Logic.{inl, inr}
 use Prim.Native.Nat.{ℕ, zero, suc, ◌*◌, ◌%◌, ◌^◌, ◌<◌, ◌≤◌}
-use lib.Dec.{T, lt→ltb}
+use lib.Dec.{T, eqb, eqb_refl, lt→ltb}
 use lib.Arith.{le→nltb}
-use lib.Ieee.{Float, nan, inf, fin, Format, binary32, odd, neg, mul, of_bits, nan_bits, is_nan}
+use lib.Ieee.{Float, nan, inf, fin, Format, binary32, up, down, odd, neg, level, ne, eq, mul, of_bits, nan_bits, is_nan}
 use lib.Ieee.Exact.{HasValue}
 use lib.Ieee.Scale.{finite}
-use lib.Ieee.Bits.{nan_bits_is, nan_bits_above}
+use lib.Ieee.Bits.{nan_bits_is, nan_bits_above, is_true}
 use Rattle.laws.specs.Exact.{negative}
 use Rattle.scalar.specs.Sign.{abs, copysign, signum, one}
 use Rattle.scalar.proofs.floats.PartsLaws.{Other, value_of_parts}
@@ -92,6 +92,20 @@ sign_of_other (inf s) h = refl
 sign_of_other (fin s m e) h = refl
 
 -- ---- kinds
+pub nan_differs : (x : Float) → ne x x ≡ is_nan x
+unfolding ne eq is_nan
+nan_differs nan = refl
+nan_differs (inf true) = refl
+nan_differs (inf false) = refl
+nan_differs (fin s m e) = ap not (level_self s (m * up e * down e))
+  where
+    level_self : (s : Bool) (n : ℕ) → level s n s n ≡ true
+    level_self s n = ap (λ (b : Bool). b && (beq s s || eqb n 0)) (is_true (eqb n n) (eqb_refl n)) ∙ same s (eqb n 0)
+      where
+        same : (s b : Bool) → true && (beq s s || b) ≡ true
+        same true b = refl
+        same false b = refl
+
 pub other_infinite : (x : Float) → Other x → false ≡ finite x
 other_infinite x (inl e) = sym (ap finite e)
 other_infinite x (inr p) = sym (ap finite p.1)

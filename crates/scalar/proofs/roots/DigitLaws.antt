@@ -28,7 +28,7 @@ module _ (m s : ℕ) (w : WholeRoot (m / 16) s) where
       same = omega arith
 
 -- ---- a root has few bits
-root_few : (m s : ℕ) → m < 2 ^ 48 → WholeRoot (m / 16) s → s < 2 ^ 22
+pub root_few : (m s : ℕ) → m < 2 ^ 48 → WholeRoot (m / 16) s → s < 2 ^ 22
 root_few m s h w = root_lt (m / 16) s 4194304 w (omega arith)
 
 -- ---- no bit of n yet, four bits more, and all

@@ -3,7 +3,7 @@ use mathlib.Core.Path.{◌≡◌, sym, ap, ◌∙◌, subst}
 use mathlib.Core.Logic.{inr}
 use mathlib.Core.Bool.{Bool, true, false, not, cond}
 use Prim.Native.Nat.{ℕ, ◌+◌, ◌-◌, ◌*◌, ◌/◌, ◌%◌, ◌^◌, ◌≤◌, ◌<◌}
-use native.Mathlib.Nat.{lt_of_le_of_lt, mod-eq_of_lt, div-mul-le_self}
+use native.Mathlib.Nat.{le_of_eq, lt_of_le_of_lt, mod-eq_of_lt, div-mul-le_self}
 use native.Mathlib.Omega.{arith}
 use lib.Dec.{T, leb, ltb, eqb, lit<, leb→le, nleb→lt, ltb→lt, nltb→le, eqb→eq}
 use lib.Ieee.{Float, nan, inf, fin, binary32, up, down, fits, is_nan, nan_bits, of_bits, to_bits}
@@ -154,3 +154,11 @@ integral_number by (fin s m e) h = (round_nearest binary32 s (by s (m * up e) (d
 pub trunc_pattern : (x : Float) → T (fits binary32 x) → T (not (is_nan x)) → (d : ℕ) → d ≡ cond (ltb (to_bits binary32 x % 2147483648 / 8388608) 127) 31 (150 - to_bits binary32 x % 2147483648 / 8388608)
     → T (not (nan_bits binary32 (to_bits binary32 x / 2 ^ d * 2 ^ d % 4294967296)))
 trunc_pattern x fx n d q = subst (λ (b : Bool). T (not b)) (sym (nan_bits_is binary32 _ ∙ ap is_nan (trunc_bits x fx n d q))) (integral_number toward_zero x n)
+
+-- ---- fewer bits count less than 1 than a pattern has
+pub fraction_bits_most : (e d : ℕ) → d ≡ cond (ltb e 127) 31 (150 - e) → d < 32
+fraction_bits_most e d q = lt_of_le_of_lt (le_of_eq q) (go (ltb e 127) (nltb→le e 127))
+  where
+    go : (t : Bool) → (T (not t) → 127 ≤ e) → cond t 31 (150 - e) < 32
+    go true f = lit< tt
+    go false f = let h = f tt in omega arith

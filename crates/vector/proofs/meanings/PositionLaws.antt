@@ -96,11 +96,11 @@ module _ (before : Float → Float → Bool)
             (at_0 (f tt))
 
 -- ---- of floats
-lt_once : (x y : Float) → T (lt x y) → T (not (lt y x))
+pub lt_once : (x y : Float) → T (lt x y) → T (not (lt y x))
 lt_once x y h = not_T (lt y x) (λ g. lt_irrefl x (lt_trans x y x h g))
 
 -- where z < x, a number y that is not below x is above z
-lt_split : (z x y : Float) → T (not (is_nan y)) → T (lt z x) → T (not (lt y x)) → T (lt z y)
+pub lt_split : (z x y : Float) → T (not (is_nan y)) → T (lt z x) → T (not (lt y x)) → T (lt z y)
 lt_split z x y n h k = lt_of_lt_of_le z x y h (le_of_not-lt y x n (le_right z x (le_of_lt z x h)) k)
 
 gt_split : (z x y : Float) → T (not (is_nan y)) → T (gt z x) → T (not (gt y x)) → T (gt z y)

@@ -10,7 +10,7 @@ use Rattle.scalar.specs.Integral as Integral
 use Rattle.scalar.specs.Euclid as Euclid
 use Rattle.scalar.proofs.floats.FitsLaws.{Fits32, fused_fits, integral_fits, div_euclid_fits, rem_euclid_fits}
 use Rattle.vector.specs.declared.vec3.Vec3.{Vec3}
-use Rattle.vector.specs.Vectors.{ZERO, each, both}
+use Rattle.vector.specs.Vectors.{ZERO, zer, each, both}
 use Rattle.vector.specs.Operators.{add, sub, mul_number, div_number, number_mul}
 use Rattle.vector.specs.Elements.{gt, lesser, greater, min, max}
 use Rattle.vector.specs.Products.{dot, cross, length, length_squared, length_recip}
@@ -20,7 +20,7 @@ use Rattle.vector.specs.Interpolation.{half, arrived, lerp, move_towards, midpoi
 use Rattle.vector.specs.Rounding.{trunc, floor, round, div_euclid, rem_euclid}
 use Rattle.vector.specs.Scaled.{scaled}
 use Rattle.vector.specs.DirectionOf.{direction_unchecked}
-use Rattle.vector.specs.Optics.{reflect}
+use Rattle.vector.specs.Optics.{reflect, refract, refract_k}
 use Rattle.vector.specs.Orthogonal.{any_orthogonal_vector}
 use Rattle.vector.specs.ExactVectors.{F32Vec}
 
@@ -153,6 +153,10 @@ reflected_vector a b = difference_vector _ _
 pub unchecked_vector : (a : Vec3) → F32Vec (direction_unchecked a)
 unfolding direction_unchecked
 unchecked_vector a = scaled_vector (scaled a) (length_recip (scaled a))
+
+pub refracted_vector : (a b : Vec3) (u : Float) → F32Vec (refract a b u)
+unfolding refract
+refracted_vector a b u = cond_any F32Vec (le zer (refract_k a b u)) _ ZERO (difference_vector (number_mul u a) _) zero_vector
 
 pub orthogonal_vector : (a : Vec3) → F32Vec a → F32Vec (any_orthogonal_vector a)
 unfolding any_orthogonal_vector
