@@ -9,6 +9,7 @@ use crate::standard::{Failure, read};
 impl Session {
     // Answers what a read brought: so many bytes at the start of the chunk, none at the end of the
     // input.
+    #[tactic(auto, using(crate::proofs::ReadLaws::got_failed, crate::proofs::ReadLaws::got_all, crate::proofs::ReadLaws::got_some))]
     fn answer_read(
         &mut self,
         got: Result<usize, Failure>,

@@ -7,6 +7,7 @@ ghost use Rattle.scalar.specs.Sign as Sign;
 
 use crate::bits::{Parts, decode};
 
+#[tactic(auto, using(crate::proofs::floats::SignLaws::nan_differs))]
 pub fn is_nan(x: f32) -> bool
     ensures { result ≡ Ieee.is_nan x }
 {

@@ -14,12 +14,11 @@ use Rattle.vector.specs.declared.vec3.Vec3.{Vec3}
 use Rattle.commands.specs.declared.codes.Kind.{Kind}
 use Rattle.commands.specs.declared.codes.Refusal.{Refusal}
 use Rattle.commands.specs.KindNumbers.{kind_number}
-use Rattle.commands.specs.RefusalNumbers.{refusal_number}
 use Rattle.commands.specs.declared.row.Row.{Row}
 use Rattle.commands.specs.declared.row.StoredRow.{StoredRow}
 use Rattle.commands.specs.declared.command.Command.{Command}
 use Rattle.commands.specs.declared.command.Answer.{Answer}
-use Rattle.commands.specs.declared.command.Answer.TheVariants.{Shown, Number, Exact, Whole}
+use Rattle.commands.specs.declared.command.Answer.TheVariants.{Shown}
 use Rattle.commands.specs.declared.effects.Effect.{Effect}
 use Rattle.commands.specs.declared.effects.Effect.TheVariants.{Tell, Put, PutTwo, Restore}
 use Rattle.commands.specs.Codes.{row_count, direction_kind, lent_too_short, history_empty}
@@ -158,28 +157,20 @@ module _ (w : List ℕ) (c : Command) (out : List ℕ) (at : ℕ) where
   unfolding lent_step_at
   at_room h = simp (le-ltb (length out) (at + 6) h)
 
--- the number of an answer's refusal
-refusal_told : (x : Result Answer Refusal) → refusal_number x ≡ (answer_of x).refusal
-unfolding answer_of
-refusal_told (Err k) = refl
-refusal_told (Ok (Shown i k v)) = refl
-refusal_told (Ok (Number n)) = refl
-refusal_told (Ok (Exact n)) = refl
-refusal_told (Ok (Whole n)) = refl
-
 pub done_at :
-    (w w' out front rest six : List ℕ) (at : ℕ) (c k : Command) (x : Result Answer Refusal)
+    (w w' out front rest six : List ℕ) (at : ℕ) (c k : Command) (x : Result Answer Refusal) (n : ℕ)
     → at + 6 ≤ length out
     → front ≡ take at out
     → rest ≡ drop at out
     → c ≡ k
     → stepped w' (answer_of x) ≡ lent_step w c
     → six ≡ numbers_of (answer_of x)
-    → stepped_at w' (front ++ (six ++ drop 6 rest)) (refusal_number x) ≡ lent_step_at w k out at
-done_at w w' out front rest six at c k x room ef er ec es e =
+    → n ≡ (answer_of x).refusal
+    → stepped_at w' (front ++ (six ++ drop 6 rest)) n ≡ lent_step_at w k out at
+done_at w w' out front rest six at c k x n room ef er ec es e en =
     let written : front ++ (six ++ drop 6 rest) ≡ sets out at (numbers_of (answer_of x)) = rw (ef, er, e) (sets_written out at (numbers_of (answer_of x)) room) in
-    ap (λ (l : List ℕ). stepped_at w' l (refusal_number x)) written
-    ∙ ap (stepped_at w' (sets out at (numbers_of (answer_of x)))) (refusal_told x)
+    ap (λ (l : List ℕ). stepped_at w' l n) written
+    ∙ ap (stepped_at w' (sets out at (numbers_of (answer_of x)))) en
     ∙ ap (λ (o : Stepped (List ℕ)). stepped_at o.state (sets out at (numbers_of o.answer)) o.answer.refusal) es
     ∙ at_room w c out at room
     ∙ ap (λ (d : Command). lent_step_at w d out at) ec

@@ -8,7 +8,7 @@ ghost use Rattle.sheet.specs.Words.{undone, lent_step};
 ghost use Rattle.commands.specs.Fields.{command_of};
 ghost use Rattle.sheet.specs.Run.{stepped_at, lent_step_at};
 
-use crate::answer::numbers_of;
+use crate::answer::{numbers_of, refusal_of};
 use crate::history::{remember, remembers, restore};
 use crate::rows::{RowIndex, STATE_WORDS, put_row, row_at, stored_at};
 use commands::codes::{Kind, Refusal};
@@ -97,6 +97,5 @@ pub fn step_at(
     };
     let answer = step(state, command_at(numbers, from));
     *places = numbers_of(answer);
-    answer?;
-    Ok(())
+    refusal_of(answer)
 }
