@@ -17,7 +17,7 @@ ghost use Rattle.std.specs.Prelude.{◌+◌, ◌*◌, ◌≤◌, ◌≡◌, leng
 ghost use Rattle.probe.specs.Bounds.{longest};
 
 use answer::Refusal;
-use call::Call;
+use call::{Call, Field};
 use output::{CAPACITY, Output};
 use std::fmt;
 use std::io::{Print, Read};
@@ -47,16 +47,19 @@ fn answer_all(call: &mut Call, bytes: &[u8], output: &mut Output) -> usize
     requires { output.old.count + length bytes.now * longest ≤ CAPACITY }
     ensures { result ≡ length bytes.now }
 {
+    let mut last = call.last;
     let mut consumed = 0;
     for byte in bytes.iter().copied() {
         consumed += 1;
         if byte == b'\n' {
-            output.put(call.answer());
-            *call = Call::new();
+            output.put(call.answer(last));
+            call.clear();
+            last = Field::Empty;
         } else {
-            call.read(byte);
+            last = call.read(last, byte);
         }
     }
+    call.last = last;
     consumed
 }
 

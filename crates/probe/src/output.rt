@@ -75,9 +75,12 @@ impl Output {
     }
 }
 
-// How many digits the number has.
+// How many digits the number has. One digit, as a refusal has, needs no logarithm.
 fn digits(n: u32) -> usize
     ensures { result ≤ 10 }
 {
-    n.checked_ilog10().map_or(1, |log| log as usize + 1)
+    match n {
+        0..=9 => 1,
+        _ => n.checked_ilog10().map_or(1, |log| log as usize + 1),
+    }
 }
