@@ -46,7 +46,8 @@ fn numbers(line: &[u8]) -> Option<[u32; 7]>
     ])
 }
 
-// The number of the W columns from `at` on. The width is a constant, so that the loops over it are unrolled.
+// The number of the W columns from `at` on. The width is a constant, so that the loop over its
+// blanks is unrolled.
 #[tactic(auto, using(crate::proofs::columns::ColumnLaws::read_part, crate::proofs::numerals::NarrowLaws::fewer_digits))]
 fn field_of<const W: usize>(line: &[u8], at: usize) -> Option<u32>
     requires { at + W ≤ length line.now }
